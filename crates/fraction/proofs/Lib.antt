@@ -1,0 +1,13 @@
+pub mod Order
+pub mod Sum
+pub mod Product
+pub mod Integer
+pub mod Quotient
+pub mod Power
+pub mod Decide
+pub mod Floor
+pub mod Rounding
+pub mod Enclosure
+pub mod Ring
+pub mod RingFraction
+pub mod Examples

@@ -1,0 +1,1 @@
+// Exact fractions, rounding and enclosure: definitions in specs/, laws in proofs/. No function.
