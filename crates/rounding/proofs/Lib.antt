@@ -1,0 +1,4 @@
+pub mod Signed
+pub mod Bounds
+pub mod Remainder
+pub mod Division
