@@ -1,0 +1,139 @@
+-- Laws of the extrapolation: the cases of a year, the κ pairs of the table, and what keeps a low at most its high.
+use mathlib.Core.Path.{_≡_, refl, ap, _∙_}
+use mathlib.Core.Bool.{Bool, true, _&&_}
+use mathlib.Core.List.{List, [], _∷_, _++_, append-assoc}
+use Prim.Native.Nat.{ℕ, zero, suc, _+_, _*_, _-_, _/_, _≤_, _<_, suc-le-suc}
+use native.Mathlib.Nat.{mul-le-mul, mul-le-mul-right, div-le-of-le-mul, le-div-iff-mul-le}
+use native.Mathlib.Omega.{arith}
+use borrow.Author.Tests.{le-leb, lt-leb}
+use lib.Dec.{T, ltb, leb→le}
+use lib.IntN.{ℤ, pos, negsuc}
+use lib.ListN.{length, getD, drop, length-map, drop-of-length-le, List·getD-map}
+use lib.Seq.{drop-cons}
+use lib.Signed.{_≤ℤ_}
+use mir.Facts.{ltb-yes, and-yes}
+use Rattle.fraction.specs.Fraction.{ℚ, natℚ, intℚ, _÷_, _*ℚ_}
+use Rattle.fraction.specs.Rounding.{U, ceilDiv, Encloses}
+use Rattle.fraction.proofs.Order.{≤ℚ-refl, ≈-sym, ≈-trans}
+use Rattle.fraction.proofs.Product.{*ℚ-comm}
+use Rattle.fraction.proofs.Integer.{intℚ-mono, natℚ-mono, natℚ-positive}
+use Rattle.fraction.proofs.Quotient.{÷-*ℚ}
+use Rattle.fraction.proofs.Rounding.{U-positive}
+use Rattle.fraction.proofs.Enclosure.{encloses-ordered, encloses-≈, encloses-÷-nat, encloses-ratio, encloses-scaled, nat-encloses}
+use Rattle.method.specs.Units.{Pair, pair, SignedPair}
+use Rattle.method.specs.Grounds.{highAboveLimit, Outcome, refused, done, _>>=_}
+use Rattle.method.specs.Quotes.{highestFactor}
+use Rattle.method.specs.Series.{growthSum, growth, growthLow, growthHigh}
+use Rattle.method.specs.Table.{table}
+use Rattle.method.specs.Extrapolation.{forward, stepLow, stepHigh, step, extrapolate, κPairs}
+use Rattle.method.specs.True.{billion}
+use Rattle.method.proofs.Forward.{Weighs, forward-encloses}
+
+-- ---- a year is worked, or refused by ground 8
+
+-- the years that are done, put before those that are left
+abbrev pub after : List Pair → Outcome (List Pair) → Outcome (List Pair)
+after ps (refused g) = refused g
+after ps (done qs) = done (ps ++ qs)
+
+pub after-none : (o : Outcome (List Pair)) → after [] o ≡ o
+after-none (refused g) = refl
+after-none (done qs) = refl
+
+pub after-after : (ps qs : List Pair) (o : Outcome (List Pair)) → after ps (after qs o) ≡ after (ps ++ qs) o
+after-after ps qs (refused g) = refl
+after-after ps qs (done rs) = rw append-assoc
+
+after-one : (p : Pair) (o : Outcome (List Pair)) → (o >>= (λ qs. done (p ∷ qs))) ≡ after (p ∷ []) o
+after-one p (refused g) = refl
+after-one p (done qs) = refl
+
+module _ (l f : SignedPair) (κ : Pair) (κs : List Pair) (year : ℕ) (p : Pair) where
+  pub year-worked : step (forward l f κ) p .high ≤ highestFactor →
+      extrapolate l f (κ ∷ κs) year p ≡ after (step (forward l f κ) p ∷ []) (extrapolate l f κs (year + 1) (step (forward l f κ) p))
+  unfolding extrapolate
+  year-worked h = rw (le-leb _ _ h) (after-one (step (forward l f κ) p) (extrapolate l f κs (year + 1) (step (forward l f κ) p)))
+
+  pub year-refused : highestFactor < step (forward l f κ) p .high → extrapolate l f (κ ∷ κs) year p ≡ refused (highAboveLimit year)
+  unfolding extrapolate
+  year-refused h = rw (lt-leb _ _ h)
+
+pub no-year : (l f : SignedPair) (year : ℕ) (p : Pair) → extrapolate l f [] year p ≡ done []
+unfolding extrapolate
+no-year l f year p = refl
+
+-- ---- the table's κ pairs
+
+pub table-length : length table ≡ 130
+unfolding table
+table-length = refl
+
+below : ℕ → List ℕ → Bool
+below b [] = true
+below b (k ∷ ks) = ltb k b && below b ks
+
+at-below : (b : ℕ) (ks : List ℕ) → 0 < b → T (below b ks) → (i : ℕ) → getD ks i 0 < b
+unfolding below
+at-below b [] h t i = h
+at-below b (k ∷ ks) h t zero = ltb-yes (and-yes (ltb k b) (below b ks) t .0)
+at-below b (k ∷ ks) h t (suc i) = at-below b ks h (and-yes (ltb k b) (below b ks) t .1) i
+
+-- past the end stands 0
+pub table-below-U : (i : ℕ) → getD table i 0 < U
+unfolding table below
+table-below-U = at-below U table U-positive tt
+
+-- the pair of an index, and those after it
+pub κPairs-next : (ks : List ℕ) (i : ℕ) → i < length ks → drop i (κPairs ks) ≡ pair (getD ks i 0) (getD ks i 0 + 1) ∷ drop (suc i) (κPairs ks)
+unfolding κPairs
+κPairs-next ks i h =
+    let pairs : ℕ → Pair = λ k. pair k (k + 1) in
+    drop-cons (κPairs ks) i (pair 0 1) (rw (length-map ks pairs) h) ∙ ap (λ (κ : Pair). κ ∷ drop (suc i) (κPairs ks)) (List·getD-map pairs ks i 0)
+
+pub κPairs-end : (ks : List ℕ) (i : ℕ) → length ks ≤ i → drop i (κPairs ks) ≡ []
+unfolding κPairs
+κPairs-end ks i h = drop-of-length-le (κPairs ks) {i = i} (rw (length-map ks (λ k. pair k (k + 1))) h)
+
+-- ---- what keeps the low at most the high
+
+between : {a b : ℕ} → a ≤ b → Encloses (pos a) (pos b) (natℚ a)
+between {a} h = nat-encloses (≤ℚ-refl (natℚ a)) (natℚ-mono h)
+
+betweenℤ : {a b : ℤ} → a ≤ℤ b → Encloses a b (intℚ a)
+betweenℤ {a} h = record { below = ≤ℚ-refl (intℚ a); above = intℚ-mono h }
+
+ordered : {a b : ℕ} {x : ℚ} → Encloses (pos a) (pos b) x → a ≤ b
+ordered {a} {b} h = leb→le a b (encloses-ordered h .le)
+
+growthSum-ordered : (y z i t u k : ℕ) → 0 < i → y ≤ z → t ≤ u → growthSum _/_ y i t k ≤ growthSum ceilDiv z i u k
+unfolding growthSum
+growthSum-ordered y z i t u zero o h l = omega arith
+growthSum-ordered y z i t u (suc k) o h l =
+    let next = ordered (encloses-÷-nat {d = i * U} (omega arith) (between (mul-le-mul l h))) in
+    omega (arith, next, growthSum-ordered y z (suc i) _ _ k (omega arith) h next)
+
+pub growth-ordered : (y z : ℕ) → y ≤ z → growthLow y ≤ growthHigh z
+unfolding growth
+growth-ordered y z h = omega (arith, growthSum-ordered y z 1 U U 7 (omega arith) h (omega arith))
+
+-- a year's step, at an ordered forward
+pub step-ordered : (f : SignedPair) (p : Pair) → f .low ≤ℤ f .high → p .low ≤ p .high → step f p .low ≤ step f p .high
+unfolding step growth
+step-ordered f p hf hp = go (f .low) (f .high) hf
+  where
+    go : (a b : ℤ) → a ≤ℤ b → stepLow b (p .low) ≤ stepHigh a (p .high)
+    go (pos a) (pos b) h =
+        ordered (encloses-ratio (omega arith) (omega arith) (between (mul-le-mul-right U hp)) (between (growth-ordered a b (leb→le a b (h .le)))))
+    go (negsuc a) (pos b) h =
+        let fallen : p .low * U / growthHigh b ≤ p .low = div-le-of-le-mul (growthHigh b) (omega arith) in
+        let risen : p .high ≤ ceilDiv (p .high * growthHigh (suc a)) U = le-div-iff-mul-le U-positive .1 (omega arith) in
+        omega (arith, fallen, risen)
+    go (pos a) (negsuc b) h = absurd (h .le)
+    go (negsuc a) (negsuc b) h = ordered (encloses-scaled U-positive (between hp) (between (growth-ordered (suc b) (suc a) (suc-le-suc (leb→le b a (h .le))))))
+
+-- and a year's forward, between ordered ones
+pub forward-ordered : (l f : SignedPair) (κ : Pair) → κ .low ≤ κ .high → κ .high ≤ U → l .low ≤ℤ l .high → f .low ≤ℤ f .high → forward l f κ .low ≤ℤ forward l f κ .high
+forward-ordered l f κ o u hl hf = encloses-ordered (forward-encloses l f κ (betweenℤ hl) (betweenℤ hf) weighs)
+  where
+    weighs : Weighs κ (natℚ (κ .low) ÷ billion)
+    weighs = record { at-most-U = u; weight = encloses-≈ (≈-sym (≈-trans (*ℚ-comm _ _) (÷-*ℚ (natℚ (κ .low)) (natℚ-positive U-positive)))) (between o) }

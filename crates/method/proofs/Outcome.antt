@@ -1,0 +1,30 @@
+-- A result that was not refused: every test on the way passed.
+use mathlib.Core.Path.{_≡_, refl, ap}
+use mathlib.Core.Bool.{Bool, true, false}
+use Prim.Native.Nat.{ℕ}
+use native.Mathlib.Omega.{arith}
+use Rattle.method.specs.Sheet.{both}
+use Rattle.method.specs.Grounds.{Ground, Outcome, refused, done, _>>=_, demand}
+
+isDone : {A : Type 0} → Outcome A → ℕ
+isDone (refused g) = 0
+isDone (done a) = 1
+
+pub refused-not-done : {A : Type 0} {g : Ground} {a : A} → refused g ≡ done a → ⊥
+unfolding isDone
+refused-not-done e = let z : _≡_ {A = ℕ} 0 1 = ap isDone e in omega arith
+
+pub done-injective : {A : Type 0} {x y : A} → done x ≡ done y → x ≡ y
+done-injective e = cc
+
+pub bind-done : {A B : Type 0} (o : Outcome A) (f : A → Outcome B) {y : B} → (o >>= f) ≡ done y → (x : A) × (o ≡ done x) × (f x ≡ done y)
+bind-done (refused g) f e = absurd (refused-not-done e)
+bind-done (done x) f e = (x, refl, e)
+
+pub demand-done : {B : Type 0} (b : Bool) (g : Ground) (f : Unit {0} → Outcome B) {y : B} → (demand b g >>= f) ≡ done y → (b ≡ true) × (f tt ≡ done y)
+demand-done true g f e = (refl, e)
+demand-done false g f e = absurd (refused-not-done e)
+
+pub both-true : (p q : Bool) → both p q ≡ true → (p ≡ true) × (q ≡ true)
+both-true true q e = (refl, e)
+both-true false q e = (e, cc)

@@ -1,0 +1,59 @@
+-- Rounded quotients as the series take them: what they enclose, and that they grow with what is divided.
+use mathlib.Core.List.{[], _∷_}
+use Prim.Native.Nat.{ℕ, zero, suc, _*_, _/_, _≤_, _<_}
+use native.Mathlib.Nat.{mul-pos, zero-lt-suc, div-zero, le-div-iff-mul-le, div-lt-iff-lt-mul, div-mul-le-self, le-trans}
+use native.Mathlib.Omega.{arith}
+use lib.IntN.{pos}
+use Rattle.fraction.specs.Fraction.{ℚ, _≈_, _≤ℚ_, natℚ, _÷_, recip}
+use Rattle.fraction.specs.Rounding.{ceilDiv, Encloses}
+use Rattle.fraction.proofs.Order.{≤ℚ-refl, ≤ℚ-≈-trans, ≈-≤ℚ-trans, ≈-sym, ≈-trans}
+use Rattle.fraction.proofs.Product.{*ℚ-comm, *ℚ-assoc, *ℚ-cong-left, *ℚ-cong-right}
+use Rattle.fraction.proofs.Quotient.{÷-*ℚ, ÷-unique, ≤-÷, ÷-≤}
+use Rattle.fraction.proofs.Integer.{natℚ-positive, natℚ-mono, natℚ-*}
+use Rattle.fraction.proofs.Enclosure.{nat-encloses}
+use Rattle.fraction.proofs.Ring.{var, _⊗_}
+use Rattle.fraction.proofs.RingFraction.{ringℚ}
+
+pub nat-exact : (a : ℕ) → Encloses (pos a) (pos a) (natℚ a)
+nat-exact a = nat-encloses (≤ℚ-refl (natℚ a)) (≤ℚ-refl (natℚ a))
+
+-- divided by a product: by one factor after the other
+pub ÷-product : (x : ℚ) {a b : ℕ} → 0 < a → 0 < b → x ÷ natℚ (a * b) ≈ (x ÷ natℚ a) ÷ natℚ b
+÷-product x {a} {b} h k =
+    let q : ℚ = (x ÷ natℚ a) ÷ natℚ b in
+    ≈-sym
+    (÷-unique (natℚ-positive (mul-pos h k))
+    (≈-trans (*ℚ-cong-right q (≈-trans (natℚ-* a b) (*ℚ-comm (natℚ a) (natℚ b))))
+    (≈-trans (≈-sym (*ℚ-assoc q (natℚ b) (natℚ a)))
+    (≈-trans (*ℚ-cong-left (natℚ a) (÷-*ℚ (x ÷ natℚ a) (natℚ-positive k))) (÷-*ℚ x (natℚ-positive h))))))
+
+pub ratio-≤ : (a c : ℕ) {b d : ℕ} → 0 < b → 0 < d → a * d ≤ c * b → natℚ a ÷ natℚ b ≤ℚ natℚ c ÷ natℚ d
+ratio-≤ a c {b} {d} h k l =
+    ÷-≤ (natℚ-positive h)
+    (≤ℚ-≈-trans
+    (≤-÷ (natℚ-positive k) (≈-≤ℚ-trans (≈-sym (natℚ-* a d)) (≤ℚ-≈-trans (natℚ-mono l) (natℚ-* c b))))
+    (ringℚ (natℚ c ∷ natℚ b ∷ recip (natℚ d) ∷ []) ((var 0 ⊗ var 1) ⊗ var 2) ((var 0 ⊗ var 2) ⊗ var 1) tt))
+
+pub ceilDiv-≤ : {a m d : ℕ} → 0 < d → a ≤ m * d → ceilDiv a d ≤ m
+ceilDiv-≤ {a} {m} {d} h l =
+    let next : ceilDiv a d < suc m = div-lt-iff-lt-mul h .1 (omega arith) in
+    omega arith
+
+-- ---- over any divisor (over 0 the quotient is 0)
+
+-- one way of rounding never gives more than another does for as much or more
+pub record Below (round round′ : ℕ → ℕ → ℕ) : Type 0 where
+  pub below : {a b : ℕ} (d : ℕ) → a ≤ b → round a d ≤ round′ b d
+
+div-mono : {a b : ℕ} (d : ℕ) → a ≤ b → a / d ≤ b / d
+div-mono {a} {b} zero h = omega (arith, div-zero a, div-zero b)
+div-mono {a} {b} (suc d) h = le-div-iff-mul-le (zero-lt-suc d) .1 (le-trans (div-mul-le-self a (suc d)) h)
+
+pub down-below-down : Below _/_ _/_
+down-below-down = record { below = div-mono }
+
+pub up-below-up : Below ceilDiv ceilDiv
+up-below-up = record { below = λ d h. div-mono d (omega arith) }
+
+pub down-below-up : Below _/_ ceilDiv
+down-below-up = record { below = λ d h. div-mono d (omega arith) }

@@ -1,0 +1,96 @@
+-- Document 01, Extrapolated years 21 to 150; and grounds 8 and 10 on them.
+use mathlib.Core.Bool.{Bool, true, false, cond, not}
+use mathlib.Core.List.{List, [], _∷_, _++_, map}
+use Prim.Native.Nat.{ℕ, zero, suc, _+_, _*_, _-_, _/_}
+use lib.Dec.{leb, ltb, eqb}
+use lib.IntN.{ℤ, pos, negsuc, natAbs, negℤ, _+ℤ_, _*ℤ_}
+use lib.ListN.{length, getD, take, drop}
+use lib.Signed.{ltZ, leZ, nonNeg}
+use Rattle.fraction.specs.Rounding.{U, floor, ceiling, ceilDiv}
+use Rattle.method.specs.Units.{Pair, pair, SignedPair, signedPair}
+use Rattle.method.specs.Grounds.{Ground, highAboveLimit, bandTooWide, Outcome, refused, done, _>>=_, demand}
+use Rattle.method.specs.Sheet.{total}
+use Rattle.method.specs.Quotes.{highestFactor}
+use Rattle.method.specs.Series.{growthLow, growthHigh, growth}
+
+-- ---- LLFR, from the volumes at 20, 25, 30, 40, 50 and the lows, or the highs, of g1 to g5
+
+abbrev pub at : List ℤ → ℕ → ℤ
+at gs i = getD gs (i - 1) (pos 0)
+
+abbrev pub volumeAt : List ℕ → ℕ → ℤ
+volumeAt vs i = pos (getD vs (i - 1) 0)
+
+-- 12 V20 g1 + 12 V25 g2 + 6 V30 (g2+g3) + 3 V40 (g2+g3+2g4) + 2 V50 (g2+g3+2g4+2g5)
+unfoldable pub llfrNumerator : List ℕ → List ℤ → ℤ
+llfrNumerator vs gs =
+    let to30 = at gs 2 +ℤ at gs 3 in
+    let to40 = to30 +ℤ pos 2 *ℤ at gs 4 in
+    let to50 = to40 +ℤ pos 2 *ℤ at gs 5 in
+    pos 12 *ℤ volumeAt vs 1 *ℤ at gs 1
+    +ℤ pos 12 *ℤ volumeAt vs 2 *ℤ at gs 2
+    +ℤ pos 6 *ℤ volumeAt vs 3 *ℤ to30
+    +ℤ pos 3 *ℤ volumeAt vs 4 *ℤ to40
+    +ℤ pos 2 *ℤ volumeAt vs 5 *ℤ to50
+
+-- rounded once
+unfoldable pub llfr : List ℕ → List SignedPair → SignedPair
+llfr vs gs =
+    signedPair
+    (floor (llfrNumerator vs (map (λ g. g .low) gs)) (12 * total vs))
+    (ceiling (llfrNumerator vs (map (λ g. g .high) gs)) (12 * total vs))
+
+-- ---- the year's forward
+
+-- L × (U - κ) + LLFR × κ
+abbrev pub blend : ℤ → ℤ → ℕ → ℤ
+blend l f κ = l *ℤ pos (U - κ) +ℤ f *ℤ pos κ
+
+abbrev pub smaller : ℤ → ℤ → ℤ
+smaller a b = cond (leZ a b) a b
+
+abbrev pub larger : ℤ → ℤ → ℤ
+larger a b = cond (leZ a b) b a
+
+-- the smaller of the results for the two ends of κ on lows, the larger on highs
+unfoldable pub forward : SignedPair → SignedPair → Pair → SignedPair
+forward l f κ =
+    signedPair
+    (smaller (floor (blend (l .low) (f .low) (κ .low)) U) (floor (blend (l .low) (f .low) (κ .high)) U))
+    (larger (ceiling (blend (l .high) (f .high) (κ .low)) U) (ceiling (blend (l .high) (f .high) (κ .high)) U))
+
+-- ---- the year's step: times e to minus the forward
+
+-- with f the forward's high
+abbrev pub stepLow : ℤ → ℕ → ℕ
+stepLow (pos f) low = low * U / growthHigh f
+stepLow (negsuc f) low = low * growthLow (suc f) / U
+
+-- with f the forward's low
+abbrev pub stepHigh : ℤ → ℕ → ℕ
+stepHigh (pos f) high = ceilDiv (high * U) (growthLow f)
+stepHigh (negsuc f) high = ceilDiv (high * growthHigh (suc f)) U
+
+unfoldable pub step : SignedPair → Pair → Pair
+step f p = pair (stepLow (f .high) (p .low)) (stepHigh (f .low) (p .high))
+
+-- ---- the years after the smoothing year, one for each κ pair
+
+unfoldable pub extrapolate : SignedPair → SignedPair → List Pair → ℕ → Pair → Outcome (List Pair)
+extrapolate l f [] year p = done []
+extrapolate l f (κ ∷ κs) year p = do
+  let next = step (forward l f κ) p
+  _ ← demand (leb (next .high) highestFactor) (highAboveLimit year)
+  later ← extrapolate l f κs (year + 1) next
+  done (next ∷ later)
+
+-- K(h) and K(h) + 1
+unfoldable pub κPairs : List ℕ → List Pair
+κPairs ks = map (λ k. pair k (k + 1)) ks
+
+-- ---- ground 10: the first year whose band passes the limit, counted on from `year`; 0 where none does
+unfoldable pub firstTooWide : ℕ → ℕ → List Pair → ℕ
+firstTooWide limit year [] = 0
+firstTooWide limit year (p ∷ ps) =
+    let rest = firstTooWide limit (year + 1) ps in
+    cond (leb (p .high - p .low) limit) rest year

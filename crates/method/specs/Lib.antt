@@ -1,0 +1,11 @@
+pub mod Units
+pub mod Grounds
+pub mod Sheet
+pub mod Quotes
+pub mod Series
+pub mod Table
+pub mod Extrapolation
+pub mod Curve
+pub mod Figures
+pub mod True
+pub mod Enclosure

@@ -1,0 +1,172 @@
+-- Document 01, Sheet; and grounds 1 to 4.
+use mathlib.Core.Bool.{Bool, true, false, cond, not}
+use mathlib.Core.List.{List, [], _∷_, _++_, map}
+use Prim.Native.Nat.{ℕ, zero, suc, _+_, _*_}
+use lib.Dec.{eqb, ltb}
+use lib.IntN.{ℤ, pos, negsuc, natAbs, _-ℤ_}
+use lib.ListN.{length, take, drop, getD}
+use lib.Signed.{leZ}
+use Rattle.method.specs.Grounds.{Ground, wrongLength, wrongRecord, outOfRange, noVolume, Outcome, refused, done, _>>=_, demand}
+
+-- ---- the 25 records
+
+pub data Kind : Type 0 where
+  month : Kind
+  rate : Kind
+  volume : Kind
+  ultimate : Kind
+  limit : Kind
+
+abbrev pub kindByte : Kind → ℕ
+kindByte month = 0x01
+kindByte rate = 0x02
+kindByte volume = 0x03
+kindByte ultimate = 0x04
+kindByte limit = 0x05
+
+-- the maturity's bytes and the number's: together the body
+abbrev pub maturityBytes : Kind → ℕ
+maturityBytes month = 0
+maturityBytes rate = 1
+maturityBytes volume = 1
+maturityBytes ultimate = 0
+maturityBytes limit = 0
+
+abbrev pub numberBytes : Kind → ℕ
+numberBytes month = 2
+numberBytes rate = 2
+numberBytes volume = 4
+numberBytes ultimate = 2
+numberBytes limit = 4
+
+abbrev pub bodyLength : Kind → ℕ
+bodyLength k = maturityBytes k + numberBytes k
+
+abbrev pub lowest : Kind → ℤ
+lowest month = pos 0
+lowest rate = negsuc 1_999
+lowest volume = pos 0
+lowest ultimate = pos 0
+lowest limit = pos 1
+
+abbrev pub highest : Kind → ℤ
+highest month = pos 2_399
+highest rate = pos 12_000
+highest volume = pos 1_000_000
+highest ultimate = pos 10_000
+highest limit = pos 100_000
+
+unfoldable pub maturities : List ℕ
+maturities = 1 ∷ 2 ∷ 3 ∷ 4 ∷ 5 ∷ 6 ∷ 7 ∷ 8 ∷ 9 ∷ 10 ∷ 12 ∷ 15 ∷ 20 ∷ 25 ∷ 30 ∷ 40 ∷ 50 ∷ []
+
+unfoldable pub volumeMaturities : List ℕ
+volumeMaturities = 20 ∷ 25 ∷ 30 ∷ 40 ∷ 50 ∷ []
+
+-- a record's kind, and its maturity (0 where it has none)
+pub record Entry : Type 0 where
+  pub kind : Kind
+  pub maturity : ℕ
+
+abbrev pub entry : Kind → ℕ → Entry
+entry k m = record { kind = k; maturity = m }
+
+unfoldable pub entries : List Entry
+entries =
+    entry month 0 ∷ map (entry rate) maturities ++ map (entry volume) volumeMaturities ++ entry ultimate 0 ∷ entry limit 0 ∷ []
+
+-- a record in its turn, with the byte at which it starts
+pub record Turn : Type 0 where
+  pub kind : Kind
+  pub maturity : ℕ
+  pub start : ℕ
+
+-- each record starts where the one before it ends
+unfoldable pub turnsFrom : ℕ → List Entry → List Turn
+turnsFrom s [] = []
+turnsFrom s (e ∷ es) = record { kind = e .kind; maturity = e .maturity; start = s } ∷ turnsFrom (s + 1 + bodyLength (e .kind)) es
+
+unfoldable pub turns : List Turn
+turns = turnsFrom 0 entries
+
+-- ---- a record's body and number
+
+-- "the body back as a part of the sheet"
+abbrev pub bodyOf : List ℕ → Turn → List ℕ
+bodyOf s t = take (bodyLength (t .kind)) (drop (t .start + 1) s)
+
+-- the high byte first
+unfoldable pub bigEndian : ℕ → List ℕ → ℕ
+bigEndian n [] = n
+bigEndian n (b ∷ bs) = bigEndian (n * 256 + b) bs
+
+abbrev pub twosComplement16 : ℕ → ℤ
+twosComplement16 n = cond (ltb n 0x8000) (pos n) (pos n -ℤ pos 0x10000)
+
+abbrev pub reading : Kind → ℕ → ℤ
+reading month n = pos n
+reading rate n = twosComplement16 n
+reading volume n = pos n
+reading ultimate n = pos n
+reading limit n = pos n
+
+abbrev pub numberOfRecord : List ℕ → Turn → ℤ
+numberOfRecord s t = reading (t .kind) (bigEndian 0 (drop (maturityBytes (t .kind)) (bodyOf s t)))
+
+-- ---- grounds 1 to 4
+
+abbrev pub both : Bool → Bool → Bool
+both true b = b
+both false b = false
+
+abbrev pub maturityRight : Kind → ℕ → List ℕ → Bool
+maturityRight month m body = true
+maturityRight rate m body = eqb (getD body 0 0) m
+maturityRight volume m body = eqb (getD body 0 0) m
+maturityRight ultimate m body = true
+maturityRight limit m body = true
+
+abbrev pub rightRecord : List ℕ → Turn → Bool
+rightRecord s t = both (eqb (getD s (t .start) 0) (kindByte (t .kind))) (maturityRight (t .kind) (t .maturity) (bodyOf s t))
+
+abbrev pub inRange : List ℕ → Turn → Bool
+inRange s t = both (leZ (lowest (t .kind)) (numberOfRecord s t)) (leZ (numberOfRecord s t) (highest (t .kind)))
+
+-- the place of the first record that fails a test, counted on from i; 0 where none does
+unfoldable pub firstFailure : (Turn → Bool) → ℕ → List Turn → ℕ
+firstFailure p i [] = 0
+firstFailure p i (t ∷ ts) = let rest = firstFailure p (suc i) ts in cond (p t) rest i
+
+unfoldable pub total : List ℕ → ℕ
+total [] = 0
+total (n ∷ ns) = n + total ns
+
+-- the sheet's numbers
+pub record Numbers : Type 0 where
+  pub month : ℕ
+  pub rates : List ℤ
+  pub volumes : List ℕ
+  pub ultimate : ℕ
+  pub limit : ℕ
+
+abbrev pub numbersOf : List ℤ → Numbers
+numbersOf zs =
+    record {
+      month = natAbs (getD zs 0 (pos 0));
+      rates = take 17 (drop 1 zs);
+      volumes = map natAbs (take 5 (drop 18 zs));
+      ultimate = natAbs (getD zs 23 (pos 0));
+      limit = natAbs (getD zs 24 (pos 0));
+    }
+
+abbrev pub sheetNumbers : List ℕ → Numbers
+sheetNumbers s = numbersOf (map (numberOfRecord s) turns)
+
+unfoldable pub readSheet : List ℕ → Outcome Numbers
+readSheet s = do
+  _ ← demand (eqb (length s) 109) wrongLength
+  let wrong = firstFailure (rightRecord s) 1 turns
+  _ ← demand (eqb wrong 0) (wrongRecord wrong)
+  let outside = firstFailure (inRange s) 1 turns
+  _ ← demand (eqb outside 0) (outOfRange outside)
+  _ ← demand (ltb 0 (total (sheetNumbers s .volumes))) noVolume
+  done (sheetNumbers s)

@@ -1,0 +1,173 @@
+-- Document 01, The true curve of order n: no rounding, worked from the sheet's numbers alone, still in billionths. Written
+-- from source 000, beside the computed curve and not by it; 000's names stand in the comments.
+use mathlib.Core.Bool.{Bool, true, false, cond}
+use mathlib.Core.List.{List, [], _∷_, _++_, map}
+use Prim.Native.Nat.{ℕ, zero, suc, _+_, _*_, _-_, _^_}
+use lib.Dec.{eqb}
+use lib.IntN.{ℤ}
+use lib.ListN.{length, take, drop, getD}
+use Rattle.fraction.specs.Fraction.{ℚ, leℚ, natℚ, intℚ, negℚ, _+ℚ_, _-ℚ_, _*ℚ_, _÷_, recip, powℚ, sumℚ}
+use Rattle.method.specs.Sheet.{Numbers, maturities}
+
+abbrev pub billion : ℚ
+billion = natℚ 1_000_000_000
+
+-- ---- e^y
+
+unfoldable pub factorial : ℕ → ℕ
+factorial zero = 1
+factorial (suc i) = factorial i * suc i
+
+-- 1 + y + y^2/2! + .. through term 12 + n
+unfoldable pub expSum : ℕ → ℚ → ℚ
+expSum n y = sumℚ (λ i. powℚ y i ÷ natℚ (factorial i)) (13 + n)
+
+-- for y below 0 one over that of -y
+unfoldable pub exp : ℕ → ℚ → ℚ
+exp n y = cond (leℚ (natℚ 0) y) (expSum n y) (recip (expSum n (negℚ y)))
+
+-- ---- the logarithm: -ln x, through 5 + n terms
+
+-- ln((1 + z)/(1 - z)) = 2 (z + z^3/3 + z^5/5 + ..)
+unfoldable pub artanhSum : ℕ → ℚ → ℚ
+artanhSum n z = natℚ 2 *ℚ sumℚ (λ i. powℚ z (2 * i + 1) ÷ natℚ (2 * i + 1)) (5 + n)
+
+unfoldable pub minusLog : ℕ → ℚ → ℚ
+minusLog n x = billion *ℚ artanhSum n ((billion -ℚ x) ÷ (billion +ℚ x))
+
+-- ---- the liquid part: factors 1/(1 + z_t)^t from the par rates r
+
+unfoldable pub sumOf : List ℚ → ℚ
+sumOf [] = natℚ 0
+sumOf (x ∷ xs) = x +ℚ sumOf xs
+
+-- the factor at which a swap of rate r over the years of annuity a and one more is at par
+unfoldable pub parFactor : ℤ → ℚ → ℚ
+parFactor r a = (billion *ℚ natℚ 100_000 -ℚ intℚ r *ℚ a) ÷ (natℚ 100_000 +ℚ intℚ r)
+
+-- the factor j years on from t at the yearly factor x = 1/(1 + f)
+unfoldable pub onward : ℚ → ℚ → ℕ → ℚ
+onward t x j = t *ℚ powℚ (x ÷ billion) j
+
+-- r (sum of the factors) + the last factor: 000's equation for f_{15,20}, its left side
+unfoldable pub swapValue : ℤ → ℚ → ℚ → ℕ → ℚ → ℚ
+swapValue r a t k x = intℚ r *ℚ (a +ℚ sumℚ (λ j. onward t x (suc j)) k) +ℚ natℚ 100_000 *ℚ onward t x k
+
+-- the m-th multiple of 10^-(9 + n), times U
+unfoldable pub multiple : ℕ → ℕ → ℚ
+multiple n m = billion *ℚ (natℚ m ÷ natℚ (10 ^ (9 + n)))
+
+unfoldable pub atMostPar : ℕ → ℤ → ℚ → ℚ → ℕ → ℕ → Bool
+atMostPar n r a t k m = leℚ (swapValue r a t k (multiple n m)) (billion *ℚ natℚ 100_000)
+
+-- the largest number up to a bound that passes a test, or 0
+unfoldable pub largest : (ℕ → Bool) → ℕ → ℕ
+largest p zero = zero
+largest p (suc b) = let less = largest p b in cond (p (suc b)) (suc b) less
+
+-- "the largest multiple, from 0 up, at which the swap's value is at most par". The search stops at twice the unit;
+-- that no larger one passes either is proved (`proofs/Crossing`).
+unfoldable pub chosen : ℕ → ℤ → ℚ → ℚ → ℕ → ℕ
+chosen n r a t k = largest (atMostPar n r a t k) (2 * 10 ^ (9 + n))
+
+pub record Liquid : Type 0 where
+  pub factors : List ℚ
+  pub yearly : List ℚ
+
+unfoldable pub lastFactor : List ℚ → ℚ
+lastFactor [] = billion
+lastFactor (x ∷ []) = x
+lastFactor (x ∷ y ∷ xs) = lastFactor (y ∷ xs)
+
+-- years 1 to k - 1 of a gap
+unfoldable pub between : ℚ → ℚ → ℕ → ℕ → List ℚ
+between t x j zero = []
+between t x j (suc k) = onward t x j ∷ between t x (suc j) k
+
+-- on to the next quoted maturity m: the forward is the same in each year of the gap; the last year is at par
+unfoldable pub toMaturity : ℕ → ℕ → ℤ → Liquid → Liquid
+toMaturity n m r l =
+    let k = m - length (l .factors) in
+    let t = lastFactor (l .factors) in
+    let x = multiple n (chosen n r (sumOf (l .factors)) t k) in
+    let inside = l .factors ++ between t x 1 (k - 1) in
+    record {
+      factors = inside ++ parFactor r (sumOf inside) ∷ [];
+      yearly = cond (eqb k 1) (l .yearly) (l .yearly ++ x ∷ []);
+    }
+
+unfoldable pub liquidFrom : ℕ → List ℕ → List ℤ → Liquid → Liquid
+liquidFrom n [] rs l = l
+liquidFrom n (m ∷ ms) [] l = l
+liquidFrom n (m ∷ ms) (r ∷ rs) l = liquidFrom n ms rs (toMaturity n m r l)
+
+unfoldable pub liquid : ℕ → List ℕ → List ℤ → Liquid
+liquid n ms rs = liquidFrom n ms rs (record { factors = []; yearly = [] })
+
+-- ---- the last liquid forward rate: LLFR = sum of w_x f, w_x = V_x over the sum of all V
+
+-- f_{20,t} is the mean of the gaps' forwards, each year counted once
+unfoldable pub yearsTotal : List ℕ → ℕ
+yearsTotal [] = 0
+yearsTotal (k ∷ ks) = k + yearsTotal ks
+
+unfoldable pub yearsSum : List ℕ → List ℚ → ℚ
+yearsSum [] fs = natℚ 0
+yearsSum (k ∷ ks) [] = natℚ 0
+yearsSum (k ∷ ks) (f ∷ fs) = natℚ k *ℚ f +ℚ yearsSum ks fs
+
+unfoldable pub meanForward : List ℕ → List ℚ → ℚ
+meanForward ks fs = yearsSum ks fs ÷ natℚ (yearsTotal ks)
+
+-- the years of gaps 20-25, 25-30, 30-40, 40-50
+unfoldable pub gapYearsFrom20 : List ℕ
+gapYearsFrom20 = 5 ∷ 5 ∷ 10 ∷ 10 ∷ []
+
+-- f_{15,20}, f_{20,25}, f_{20,30}, f_{20,40}, f_{20,50} from the gaps' own forwards
+unfoldable pub marketForwards : List ℚ → List ℚ
+marketForwards fs =
+    let from20 = drop 1 fs in
+    getD fs 0 (natℚ 0)
+    ∷ map (λ i. meanForward (take i gapYearsFrom20) from20) (1 ∷ 2 ∷ 3 ∷ 4 ∷ [])
+
+unfoldable pub weighted : List ℕ → ℚ → List ℚ → ℚ
+weighted [] all fs = natℚ 0
+weighted (v ∷ vs) all [] = natℚ 0
+weighted (v ∷ vs) all (f ∷ fs) = (natℚ v ÷ all) *ℚ f +ℚ weighted vs all fs
+
+unfoldable pub lastLiquidForward : List ℕ → List ℚ → ℚ
+lastLiquidForward vs fs = weighted vs (natℚ (yearsTotal vs)) (marketForwards fs)
+
+-- ---- the extrapolated part
+
+-- k(h) = h B(a,h) - (h-1) B(a,h-1) at a = 1/10, which is 10 q^(h-1) (1 - q) with q = e^-a
+unfoldable pub decay : ℕ → ℚ
+decay n = recip (expSum n (natℚ 1 ÷ natℚ 10))
+
+unfoldable pub convergence : ℕ → ℕ → ℚ
+convergence n h = natℚ 10 *ℚ powℚ (decay n) (h - 1) *ℚ (natℚ 1 -ℚ decay n)
+
+-- ln(1 + UFR) + (LLFR - ln(1 + UFR)) k(h)
+unfoldable pub yearForward : ℕ → ℚ → ℚ → ℕ → ℚ
+yearForward n l f h = l +ℚ (f -ℚ l) *ℚ convergence n h
+
+-- year 20 + h is the year before times e to minus its forward
+unfoldable pub extrapolated : ℕ → ℚ → ℚ → ℕ → ℕ → ℚ → List ℚ
+extrapolated n l f h zero p = []
+extrapolated n l f h (suc c) p =
+    let next = p *ℚ exp n (negℚ (yearForward n l f h ÷ billion)) in
+    next ∷ extrapolated n l f (suc h) c next
+
+-- ---- the curve
+
+unfoldable pub trueCurve : ℕ → Numbers → List ℚ
+trueCurve n s =
+    let l = liquid n maturities (s .rates) in
+    let upTo20 = take 20 (l .factors) in
+    let f = lastLiquidForward (s .volumes) (map (minusLog n) (drop 2 (l .yearly))) in
+    let ultimate = negℚ (minusLog n (billion *ℚ (natℚ 1 +ℚ natℚ (s .ultimate) ÷ natℚ 100_000))) in
+    upTo20 ++ extrapolated n ultimate f 1 130 (lastFactor upTo20)
+
+-- the true factor of order n of a year, from 1
+unfoldable pub trueFactor : ℕ → Numbers → ℕ → ℚ
+trueFactor n s t = getD (trueCurve n s) (t - 1) (natℚ 0)
