@@ -1,0 +1,5 @@
+pub mod Count
+pub mod PageLaws
+pub mod Theorem
+pub mod Told
+pub mod Examples
