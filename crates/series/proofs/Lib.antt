@@ -1,0 +1,4 @@
+pub mod Quotients
+pub mod Logarithm
+pub mod Growth
+pub mod Forwards

@@ -1,0 +1,52 @@
+-- `minus_log` meets its contract.
+use mathlib.Core.Path.{ap, _∙_}
+use Rattle.series.specs.Series.{negated}
+use Rattle.series.proofs.Forwards.{cast, cast-bounded}
+use Rattle.series.proofs.Logarithm.{G-to-U, G-above-U}
+use borrow.Author.Needs.{needs}
+use Rattle.series.proofs.minus_log.Statement.{statement}
+use Rattle.series.proofs.minus_log.Tie as tie
+
+log-size-requires : tie.Need-log-size-requires
+log-size-requires c κs = search needs
+
+log-size-requires-2 : tie.Need-log-size-requires-2
+log-size-requires-2 c κs = search needs
+
+add-high : tie.Need-add-high
+add-high c = search needs
+
+cast-t6 : tie.Need-cast-t6
+cast-t6 c = search needs
+
+cast-t7 : tie.Need-cast-t7
+cast-t7 c = search needs
+
+returns : tie.Need-returns
+returns c =
+    let low = c .before .before .log-size .ensures in
+    let high = c .before .log-size2 .ensures in
+    (cast (low .1) (high .1) ∙ G-to-U (low .0) (high .0) (c .if1 .taken), cast-bounded (low .1) (high .1))
+
+returns-2 : tie.Need-returns-2
+returns-2 c =
+    let low = c .before .before .before .log-size .ensures in
+    let high = c .before .before .log-size2 .ensures in
+    let g = G-above-U (low .0) (high .0) (c .before .if1 .left) in
+    (c .negate .ensures .0 ∙ ap negated (cast (low .1) (high .1)) ∙ g, c .negate .ensures .1)
+
+negate-requires : tie.Need-negate-requires
+negate-requires c κs = cast-bounded (c .before .before .log-size .ensures .1) (c .before .log-size2 .ensures .1)
+
+pub minus-log-spec : {M : Type 1} → statement M
+minus-log-spec =
+    tie.close
+    (tie.spec
+    log-size-requires
+    log-size-requires-2
+    add-high
+    cast-t6
+    cast-t7
+    negate-requires
+    returns
+    returns-2)
