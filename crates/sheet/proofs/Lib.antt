@@ -1,0 +1,4 @@
+pub mod Bytes
+pub mod Filling
+pub mod Trading
+pub mod Answered

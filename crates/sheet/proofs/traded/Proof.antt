@@ -1,0 +1,70 @@
+-- `traded` meets its contract: nothing was traded before the index that the loop has come to.
+use mathlib.Core.Path.{_≡_, refl, sym}
+use mathlib.Core.List.{List}
+use Prim.Native.Nat.{ℕ, _-_, _≤_}
+use native.Mathlib.Omega.{arith}
+use lib.ListN.{length, drop}
+use borrow.Author.Tests.{lt-ltb, le-ltb}
+use borrow.Author.Needs.{needs}
+use Rattle.method.specs.Sheet.{total}
+use Rattle.sheet.proofs.Trading.{total-next, total-past}
+use Rattle.sheet.proofs.traded.Statement.{statement}
+use Rattle.sheet.proofs.traded.Tie as tie
+
+-- nothing was traded before the index i
+record Left (volumes : List ℕ) (i : ℕ) : Type 0 where
+  within : i ≤ 5
+  long : length volumes ≡ 5
+  left : total volumes ≡ total (drop i volumes)
+
+abbrev Inv-loop : tie.InvT-loop
+Inv-loop volumes i₀ i = Left volumes i
+
+abbrev μ-loop : tie.MeasureT-loop
+μ-loop volumes i₀ i = 5 - i
+
+loop-holds : tie.Need-loop-holds Inv-loop μ-loop
+loop-holds c = record { within = search needs; long = search needs; left = refl }
+
+mul-if1 : tie.Need-mul-if1 Inv-loop μ-loop
+mul-if1 c = search needs
+
+array-read-if1 : tie.Need-array-read-if1 Inv-loop μ-loop
+array-read-if1 c = search needs
+
+returns : tie.Need-returns Inv-loop μ-loop
+returns c =
+    let l = c .before .before .loop in
+    sym (lt-ltb 0 (total (c .before .before .before .args .t1)) (omega (arith, total-next (c .before .before .before .args .t1) (l .i) (omega arith))))
+
+add-i : tie.Need-add-i Inv-loop μ-loop
+add-i c = search needs
+
+loop-less : tie.Need-loop-less Inv-loop μ-loop
+loop-less c = search needs
+
+loop-again : tie.Need-loop-again Inv-loop μ-loop
+loop-again c =
+    let l = c .before .before .loop in
+    let e = total-next (c .before .before .before .args .t1) (l .i) (omega arith) in
+    record { within = omega arith; long = l .inv .long; left = omega arith }
+
+returns-2 : tie.Need-returns-2 Inv-loop μ-loop
+returns-2 c =
+    let l = c .before .loop in
+    sym (le-ltb 0 (total (c .before .before .args .t1)) (omega (arith, total-past (c .before .before .args .t1) (l .i) (omega arith))))
+
+pub traded-spec : {M : Type 1} → statement M
+traded-spec =
+    tie.close
+    (tie.spec
+    Inv-loop
+    μ-loop
+    loop-holds
+    mul-if1
+    array-read-if1
+    returns
+    add-i
+    loop-less
+    loop-again
+    returns-2)
