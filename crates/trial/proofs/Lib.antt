@@ -1,0 +1,3 @@
+pub mod Trials
+pub mod Passes
+pub mod Halving

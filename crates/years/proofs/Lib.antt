@@ -1,0 +1,5 @@
+pub mod Pairs
+pub mod Soundness
+pub mod Judged
+pub mod Answers
+pub mod Inside
