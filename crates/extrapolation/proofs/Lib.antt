@@ -1,0 +1,6 @@
+pub mod Machine
+pub mod Arrays
+pub mod Forwarding
+pub mod Gaps
+pub mod Stepping
+pub mod Years
