@@ -1,0 +1,62 @@
+-- What `curveOf` comes to, test by test, with the years in two arrays.
+use mathlib.Core.Path.{_≡_, refl, ap, sym, _∙_}
+use mathlib.Core.List.{List, _++_, map}
+use Prim.Native.Nat.{ℕ, _≤_}
+use native.Mathlib.Omega.{arith}
+use lib.Dec.{eqb}
+use lib.ListN.{length, take, drop, take-append-drop}
+use borrow.Author.Tests.{eq-eqb, ne-eqb}
+use Rattle.method.specs.Units.{Pair, pair}
+use Rattle.method.specs.Grounds.{Ground, bandTooWide, Outcome, refused, done, _>>=_, demand}
+use Rattle.method.specs.Sheet.{Numbers, maturities, readSheet}
+use Rattle.method.specs.Quotes.{Bootstrap, bootstrap, quotesOf}
+use Rattle.method.specs.Extrapolation.{firstTooWide}
+use Rattle.method.specs.Curve.{Curve, smoothingYear, curveOf, answer}
+use Rattle.extrapolation.specs.Extrapolated.{pairsOf}
+use Rattle.extrapolation.proofs.Arrays.{zip-left, zip-right}
+use Rattle.curve.specs.Years.{laterYears, banded}
+
+-- the curve of two arrays, under a sheet's month and limit
+abbrev pub curveWith : Numbers → List ℕ → List ℕ → Curve
+curveWith n lows highs = record { month = n .month; limit = n .limit; lows = lows; highs = highs }
+
+-- ---- ground 10
+
+module _ (c : Curve) where
+  abbrev pub widest : ℕ
+  widest = firstTooWide (c .limit) 1 (pairsOf (c .lows) (c .highs))
+
+  pub banded-done : widest ≡ 0 → banded c ≡ done c
+  banded-done e = rw (eq-eqb widest 0 e)
+
+  pub banded-refused : (widest ≡ 0 → ⊥) → banded c ≡ refused (bandTooWide widest)
+  banded-refused n = rw (ne-eqb widest 0 n)
+
+-- ---- grounds 7 to 10
+
+module _ (n : Numbers) where
+  pub quotes-refused : {g : Ground} → bootstrap (quotesOf maturities (n .rates)) ≡ refused g → curveOf n ≡ refused g
+  unfolding curveOf
+  quotes-refused e = rw e
+
+  module _ (b : Bootstrap) (d : bootstrap (quotesOf maturities (n .rates)) ≡ done b) where
+    pub later-refused : {g : Ground} → laterYears n b ≡ refused g → curveOf n ≡ refused g
+    unfolding curveOf
+    later-refused e = rw (d, e)
+
+    pub years-banded : (lows highs : List ℕ) → length lows ≡ length highs → take smoothingYear (pairsOf lows highs) ≡ take smoothingYear (b .factors) →
+        laterYears n b ≡ done (drop smoothingYear (pairsOf lows highs)) → curveOf n ≡ banded (curveWith n lows highs)
+    unfolding curveOf
+    years-banded lows highs same quoted later =
+        rw (d, later, ← quoted, take-append-drop smoothingYear (pairsOf lows highs), zip-left pair (λ p. p .low) (λ l h. refl) lows highs same, zip-right pair (λ p. p .high) (λ l h. refl) lows highs same)
+
+-- ---- grounds 1 to 4 before them
+
+module _ (bytes : List ℕ) where
+  pub answer-read : {n : Numbers} → readSheet bytes ≡ done n → answer bytes ≡ curveOf n
+  unfolding answer
+  answer-read e = rw e
+
+  pub answer-refused : {g : Ground} → readSheet bytes ≡ refused g → answer bytes ≡ refused g
+  unfolding answer
+  answer-refused e = rw e

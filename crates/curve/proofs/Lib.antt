@@ -1,0 +1,4 @@
+pub mod TooWide
+pub mod Copying
+pub mod Laws
+pub mod Extending
