@@ -1,0 +1,5 @@
+pub mod Putting
+pub mod Decimal
+pub mod Refusals
+pub mod Serving
+pub mod Moving

@@ -1,0 +1,4 @@
+pub mod Making
+pub mod Returning
+pub mod Encoding
+pub mod Examples
