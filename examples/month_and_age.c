@@ -1,0 +1,25 @@
+/* Prints the month and the age of the curve that a journal leaves: month_and_age < journal
+ * Build: rt staticlib replay && cc -Iinclude examples/month_and_age.c target/staticlib/libreplay.a -o month_and_age */
+#include <stdio.h>
+#include <stdlib.h>
+#include "tuyqorem.h"
+
+int main(void) {
+    size_t held = 0, room = 1 << 16;
+    uint8_t *calls = malloc(room);
+    while (calls != NULL) {
+        held += fread(calls + held, 1, room - held, stdin);
+        if (held < room) break;
+        calls = realloc(calls, room *= 2);
+    }
+    if (calls == NULL) return 1;
+    static uint8_t page[1505];
+    uint64_t refused = tuyqorem_page_after(calls, held, page, sizeof page);
+    free(calls);
+    if (refused) {
+        printf("refused: %u\n", (unsigned)refused);
+        return 0;
+    }
+    printf("month %u, age %u\n", page[1] * 256u + page[2], page[3] * 256u + page[4]);
+    return 0;
+}

@@ -1,0 +1,39 @@
+//! The proved library's C interface, wrapped for Rust.
+
+use std::os::raw::c_uchar;
+
+extern "C" {
+    fn tuyqorem_look_after(
+        calls: *const c_uchar,
+        calls_len: usize,
+        year: u64,
+        out: *mut c_uchar,
+        out_len: usize,
+    ) -> u64;
+    fn tuyqorem_page_after(
+        calls: *const c_uchar,
+        calls_len: usize,
+        out: *mut c_uchar,
+        out_len: usize,
+    ) -> u64;
+}
+
+/// Document 01's number of the ground, or 0.
+pub fn look_after(calls: &[u8], year: u64, out: &mut [u8]) -> u64 {
+    // SAFETY: both slices are valid for their lengths, and a `&mut` overlaps nothing.
+    unsafe {
+        tuyqorem_look_after(
+            calls.as_ptr(),
+            calls.len(),
+            year,
+            out.as_mut_ptr(),
+            out.len(),
+        )
+    }
+}
+
+/// Document 01's number of the ground, or 0.
+pub fn page_after(calls: &[u8], out: &mut [u8]) -> u64 {
+    // SAFETY: both slices are valid for their lengths, and a `&mut` overlaps nothing.
+    unsafe { tuyqorem_page_after(calls.as_ptr(), calls.len(), out.as_mut_ptr(), out.len()) }
+}

@@ -1,0 +1,200 @@
+//! Discount factors of years 1 to 50 from the par rates, with grounds 7 to 9.
+
+use crate::enclosure::{div_down, div_up, Enclosure, RATE_UNIT, U};
+use crate::refusal::Refusal;
+use crate::series::neg_log;
+use crate::sheet::{Sheet, MATURITIES};
+
+/// Value of a swap's fixed leg at par.
+const PAR: i128 = RATE_UNIT * U;
+
+/// The ends between which a gap's yearly factor is sought.
+const LOWEST_YEARLY_FACTOR: i128 = 800_000_000;
+const HIGHEST_YEARLY_FACTOR: i128 = 1_100_000_000;
+
+/// The largest allowed high of a discount factor.
+pub const LARGEST_HIGH: i128 = 2 * U;
+
+/// Index of maturity 20 in `MATURITIES`: its gap is the first whose forward is kept.
+const FIRST_KEPT_GAP: usize = 12;
+
+/// The result of the bootstrap.
+pub struct Bootstrap {
+    /// Discount factors of years 1 to 50.
+    pub factors: Vec<Enclosure>,
+    /// Forwards of gaps 15-20, 20-25, 25-30, 30-40 and 40-50.
+    pub forwards: [Enclosure; 5],
+}
+
+/// The years worked so far and the sum of their factors.
+struct Years {
+    factors: Vec<Enclosure>,
+    annuity: Enclosure,
+}
+
+/// A gap of years between two quoted maturities.
+struct Gap {
+    years: usize,
+    rate: i128,
+    start: Enclosure,
+    annuity: Enclosure,
+}
+
+/// The gap's yearly factors at one trial: the sum of T1 to Tk, and Tk.
+struct Trial {
+    sum: Enclosure,
+    last: Enclosure,
+}
+
+/// The discount factors and forwards of the sheet, or the first of grounds 7 to 9.
+pub fn bootstrap(sheet: &Sheet) -> Result<Bootstrap, Refusal> {
+    let mut years = Years {
+        factors: Vec::new(),
+        annuity: Enclosure::ZERO,
+    };
+    let mut forwards = [Enclosure::ZERO; 5];
+    for (i, &maturity) in MATURITIES.iter().enumerate() {
+        let rate = i128::from(sheet.rates[i]);
+        let gap_years = usize::from(maturity) - years.factors.len();
+        if gap_years > 1 {
+            let yearly = years.fill_gap(gap_years, rate)?;
+            if i >= FIRST_KEPT_GAP {
+                forwards[i - FIRST_KEPT_GAP] = forward(yearly);
+            }
+        }
+        years.push(par_factor(rate, years.annuity))?;
+    }
+    Ok(Bootstrap {
+        factors: years.factors,
+        forwards,
+    })
+}
+
+impl Years {
+    /// Appends the next year's factor, or gives ground 7 or 8.
+    fn push(&mut self, factor: Enclosure) -> Result<(), Refusal> {
+        let year = self.factors.len() + 1;
+        if factor.low < 1 {
+            return Err(Refusal::at(7, year));
+        }
+        if factor.high > LARGEST_HIGH {
+            return Err(Refusal::at(8, year));
+        }
+        self.factors.push(factor);
+        self.annuity = self.annuity.plus(factor);
+        Ok(())
+    }
+
+    /// Appends the years inside a gap and hands back its yearly factor. The gap's
+    /// last year is left to par, since Tk would not reprice the quoted swap.
+    fn fill_gap(&mut self, gap_years: usize, rate: i128) -> Result<Enclosure, Refusal> {
+        let start = *self.factors.last().expect("no gap comes before year 1");
+        let gap = Gap {
+            years: gap_years,
+            rate,
+            start,
+            annuity: self.annuity,
+        };
+        let end = self.factors.len() + gap_years;
+        let yearly = gap.yearly_factor().ok_or(Refusal::at(9, end))?;
+        let mut factor = start;
+        for _ in 1..gap_years {
+            factor = Enclosure::new(
+                div_down(factor.low * yearly.low, U),
+                div_up(factor.high * yearly.high, U),
+            );
+            self.push(factor)?;
+        }
+        Ok(yearly)
+    }
+}
+
+/// The factor of a quoted year from its par rate and the earlier years' sum.
+pub fn par_factor(rate: i128, annuity: Enclosure) -> Enclosure {
+    // The larger product rate × A gives the smaller factor.
+    let (for_low, for_high) = if rate >= 0 {
+        (annuity.high, annuity.low)
+    } else {
+        (annuity.low, annuity.high)
+    };
+    Enclosure::new(
+        div_down(PAR - rate * for_low, RATE_UNIT + rate),
+        div_up(PAR - rate * for_high, RATE_UNIT + rate),
+    )
+}
+
+/// A gap's forward; the logarithm falls as the yearly factor rises.
+fn forward(yearly: Enclosure) -> Enclosure {
+    Enclosure::new(neg_log(yearly.high).low, neg_log(yearly.low).high)
+}
+
+impl Gap {
+    /// The enclosure of the yearly factor, or none if an end fails its test.
+    fn yearly_factor(&self) -> Option<Enclosure> {
+        let (low, high) = (LOWEST_YEARLY_FACTOR, HIGHEST_YEARLY_FACTOR);
+        if !self.surely_not_above_par(low) || !self.surely_not_below_par(high) {
+            return None;
+        }
+        Some(Enclosure::new(
+            self.halve_for_low(low, high),
+            self.halve_for_high(low, high),
+        ))
+    }
+
+    /// The lower end once the ends are 1 apart.
+    fn halve_for_low(&self, low: i128, high: i128) -> i128 {
+        if high - low <= 1 {
+            return low;
+        }
+        let middle = div_down(low + high, 2);
+        if self.surely_not_above_par(middle) {
+            self.halve_for_low(middle, high)
+        } else {
+            self.halve_for_low(low, middle)
+        }
+    }
+
+    /// The upper end once the ends are 1 apart.
+    fn halve_for_high(&self, low: i128, high: i128) -> i128 {
+        if high - low <= 1 {
+            return high;
+        }
+        let middle = div_down(low + high, 2);
+        if self.surely_not_below_par(middle) {
+            self.halve_for_high(low, middle)
+        } else {
+            self.halve_for_high(middle, high)
+        }
+    }
+
+    /// T1 to Tk at the trial yearly factor `x`.
+    fn trial(&self, x: i128) -> Trial {
+        let mut last = self.start;
+        let mut sum = Enclosure::ZERO;
+        for _ in 0..self.years {
+            last = Enclosure::new(div_down(last.low * x, U), div_up(last.high * x, U));
+            sum = sum.plus(last);
+        }
+        Trial { sum, last }
+    }
+
+    fn surely_not_above_par(&self, x: i128) -> bool {
+        let trial = self.trial(x);
+        let annuity = self.annuity.plus(trial.sum);
+        if self.rate >= 0 {
+            self.rate * annuity.high + RATE_UNIT * trial.last.high <= PAR
+        } else {
+            RATE_UNIT * trial.last.high <= PAR + self.rate.abs() * annuity.low
+        }
+    }
+
+    fn surely_not_below_par(&self, x: i128) -> bool {
+        let trial = self.trial(x);
+        let annuity = self.annuity.plus(trial.sum);
+        if self.rate >= 0 {
+            self.rate * annuity.low + RATE_UNIT * trial.last.low >= PAR
+        } else {
+            RATE_UNIT * trial.last.low >= PAR + self.rate.abs() * annuity.high
+        }
+    }
+}

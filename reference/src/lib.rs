@@ -1,0 +1,18 @@
+//! Second implementation of the dated euro curve book: sheet reading, bootstrap
+//! from par rates, extrapolation, the book itself, and the true curve of order n
+//! against which the enclosures are checked.
+
+pub mod bigint;
+pub mod book;
+pub mod bootstrap;
+pub mod curve;
+pub mod desk;
+pub mod enclosure;
+pub mod extrapolation;
+pub mod interval;
+pub mod refusal;
+pub mod series;
+pub mod sheet;
+pub mod streams;
+pub mod true_curve;
+pub mod weights;

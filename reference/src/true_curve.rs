@@ -1,0 +1,377 @@
+//! The true curve of order n, and whether a curve's enclosures hold it.
+//!
+//! Years 1 to 50 from the quotes are exact fractions: the earlier years' sum and the
+//! newest factor share one denominator, below 1,700 bits up to order 3, so the search
+//! for a gap's yearly factor compares whole numbers and no tie can be undecided.
+//! From the logarithm on, exact fractions would grow to millions of digits; there
+//! every value is an interval of fixed-point numbers with 1,024 bits (308 decimal
+//! digits) and outward rounding, and the precision is doubled when a comparison with
+//! a low or a high is undecided.
+
+use crate::bigint::BigInt;
+use crate::curve::{Curve, YEARS};
+use crate::enclosure::{Enclosure, RATE_UNIT, U};
+use crate::extrapolation::{FIRST_SMOOTHING_POINT, TWELVEFOLD_MEANS, UFR_UNIT};
+use crate::interval::Interval;
+use crate::sheet::{Sheet, MATURITIES};
+use crate::weights::HORIZON;
+
+/// Terms of the logarithm's sum at order 0.
+const LOG_TERMS: usize = 5;
+
+/// Last term of the exponential's sum at order 0.
+const LAST_EXP_TERM: usize = 12;
+
+/// Decimal places of a gap's yearly factor at order 0.
+const YEARLY_FACTOR_PLACES: usize = 9;
+
+/// Bits of the fixed-point numbers, tried in turn.
+const PRECISIONS: [usize; 5] = [1_024, 2_048, 4_096, 8_192, 16_384];
+
+/// Parts of a billionth in which slack is told.
+pub const SLACK_UNIT: i128 = 1_000_000;
+
+/// Index in `MATURITIES` of the first gap whose yearly factor is kept.
+const FIRST_KEPT_GAP: usize = 12;
+
+/// A fraction with a denominator above 0.
+#[derive(Clone, Debug)]
+struct Fraction {
+    numerator: BigInt,
+    denominator: BigInt,
+}
+
+/// How one year's enclosure stands to the true factor.
+#[derive(Clone, Copy, Debug, PartialEq, Eq)]
+pub struct YearCheck {
+    pub year: usize,
+    pub factor: Enclosure,
+    /// Whether low ≤ true factor ≤ high.
+    pub inside: bool,
+    /// True factor less low in millionths of a billionth, rounded down.
+    pub slack_below: i128,
+    /// High less true factor in millionths of a billionth, rounded down.
+    pub slack_above: i128,
+}
+
+/// The true curve could not be worked: no multiple is the largest at or below par.
+#[derive(Clone, Copy, Debug, PartialEq, Eq)]
+pub struct NoYearlyFactor {
+    /// Last maturity of the gap.
+    pub maturity: u8,
+}
+
+/// Checks every year of `curve` against the sheet's true curve of order `order`.
+pub fn check(sheet: &Sheet, curve: &Curve, order: usize) -> Result<Vec<YearCheck>, NoYearlyFactor> {
+    let quotes = TrueQuotes::of(sheet, order)?;
+    let checks = PRECISIONS
+        .iter()
+        .find_map(|&bits| extrapolated_checks(sheet, curve, &quotes, order, bits))
+        .expect("a comparison stays undecided at the highest precision");
+    let liquid = (1..=FIRST_SMOOTHING_POINT)
+        .map(|year| exact_check(year, curve.factor(year), &quotes.factors[year - 1]));
+    Ok(liquid.chain(checks).collect())
+}
+
+/// The part of the true curve that comes from the quotes.
+struct TrueQuotes {
+    /// True factors of years 1 to 50, in billionths.
+    factors: Vec<Fraction>,
+    /// Yearly factors of the five last gaps as parts of one.
+    yearly_factors: Vec<Fraction>,
+}
+
+impl TrueQuotes {
+    fn of(sheet: &Sheet, order: usize) -> Result<TrueQuotes, NoYearlyFactor> {
+        let mut years = ExactYears::new(order);
+        let mut yearly_factors = Vec::new();
+        for (i, &maturity) in MATURITIES.iter().enumerate() {
+            let rate = BigInt::from(i128::from(sheet.rates[i]));
+            let gap_years = usize::from(maturity) - years.factors.len();
+            if gap_years > 1 {
+                let multiple = years
+                    .largest_multiple(gap_years, &rate)
+                    .ok_or(NoYearlyFactor { maturity })?;
+                years.fill_gap(gap_years, &multiple);
+                if i >= FIRST_KEPT_GAP {
+                    let denominator = years.grid.clone();
+                    yearly_factors.push(Fraction {
+                        numerator: multiple,
+                        denominator,
+                    });
+                }
+            }
+            years.push_par_factor(&rate);
+        }
+        Ok(TrueQuotes {
+            factors: years.factors,
+            yearly_factors,
+        })
+    }
+}
+
+/// The true years worked so far. Last factor and sum are over the same `denominator`.
+struct ExactYears {
+    factors: Vec<Fraction>,
+    last: BigInt,
+    sum: BigInt,
+    denominator: BigInt,
+    /// 10^(9 + n): yearly factors are multiples of one over it.
+    grid: BigInt,
+}
+
+impl ExactYears {
+    fn new(order: usize) -> Self {
+        ExactYears {
+            factors: Vec::new(),
+            last: BigInt::zero(),
+            sum: BigInt::zero(),
+            denominator: BigInt::one(),
+            grid: BigInt::from(10).pow(YEARLY_FACTOR_PLACES + order),
+        }
+    }
+
+    /// Appends the factor `last / denominator` and adds it to the sum.
+    fn push(&mut self, last: BigInt) {
+        self.sum = &self.sum + &last;
+        self.factors.push(Fraction {
+            numerator: last.clone(),
+            denominator: self.denominator.clone(),
+        });
+        self.last = last;
+    }
+
+    /// Brings everything over the denominator times `factor`.
+    fn extend_denominator(&mut self, factor: &BigInt) {
+        self.last = &self.last * factor;
+        self.sum = &self.sum * factor;
+        self.denominator = &self.denominator * factor;
+    }
+
+    /// Appends a quoted year by par.
+    fn push_par_factor(&mut self, rate: &BigInt) {
+        let divisor = &BigInt::from(RATE_UNIT) + rate;
+        let par = &BigInt::from(RATE_UNIT * U) * &self.denominator;
+        let numerator = &par - &(rate * &self.sum);
+        self.extend_denominator(&divisor);
+        self.push(numerator);
+    }
+
+    /// Appends the years inside a gap whose yearly factor is `multiple / grid`.
+    fn fill_gap(&mut self, gap_years: usize, multiple: &BigInt) {
+        for _ in 1..gap_years {
+            let next = &self.last * multiple;
+            let grid = self.grid.clone();
+            self.extend_denominator(&grid);
+            self.push(next);
+        }
+    }
+
+    /// The largest whole number from 0 up whose multiple of one over the grid puts
+    /// the swap's value at most at par; none if there is no such number.
+    ///
+    /// Halving is sound: for a rate of 0 or more the value rises with the yearly
+    /// factor; for one below 0 only the highest power has a positive coefficient, so
+    /// value less par changes sign once from 0 up.
+    fn largest_multiple(&self, gap_years: usize, rate: &BigInt) -> Option<BigInt> {
+        let at_most_par = |multiple: &BigInt| self.at_most_par(gap_years, rate, multiple);
+        if !self.last.is_positive() || !at_most_par(&BigInt::zero()) {
+            return None;
+        }
+        let mut low = BigInt::zero();
+        let mut high = self.grid.clone();
+        while at_most_par(&high) {
+            low = high.clone();
+            high = high.shift_left(1);
+        }
+        while (&high - &low) > BigInt::one() {
+            let middle = (&low + &high).shift_right_down(1);
+            if at_most_par(&middle) {
+                low = middle;
+            } else {
+                high = middle;
+            }
+        }
+        Some(low)
+    }
+
+    /// Whether rate × (A + S) + 100,000 × Tk ≤ 100,000 × U, compared as whole numbers
+    /// after multiplying both sides by denominator × grid^k.
+    fn at_most_par(&self, gap_years: usize, rate: &BigInt, multiple: &BigInt) -> bool {
+        let mut term = self.last.clone();
+        let mut sum = self.sum.clone();
+        let mut denominator = self.denominator.clone();
+        for _ in 0..gap_years {
+            term = &term * multiple;
+            sum = &(&sum * &self.grid) + &term;
+            denominator = &denominator * &self.grid;
+        }
+        let value = &(rate * &sum) + &(&BigInt::from(RATE_UNIT) * &term);
+        value <= &BigInt::from(RATE_UNIT * U) * &denominator
+    }
+}
+
+/// The check of a year whose true factor is an exact fraction.
+fn exact_check(year: usize, factor: Enclosure, exact: &Fraction) -> YearCheck {
+    let over = |bound: i128| &BigInt::from(bound) * &exact.denominator;
+    let below = &exact.numerator - &over(factor.low);
+    let above = &over(factor.high) - &exact.numerator;
+    let slack = |difference: &BigInt| {
+        (difference * &BigInt::from(SLACK_UNIT))
+            .div_down(&exact.denominator)
+            .to_i128()
+            .expect("slack within 128 bits")
+    };
+    YearCheck {
+        year,
+        factor,
+        inside: !below.is_negative() && !above.is_negative(),
+        slack_below: slack(&below),
+        slack_above: slack(&above),
+    }
+}
+
+/// The check of a year whose true factor is an interval, or none if undecided.
+fn interval_check(year: usize, factor: Enclosure, enclosed: &Interval) -> Option<YearCheck> {
+    let bits = enclosed.bits();
+    let below = enclosed.sub(&Interval::integer(factor.low, bits));
+    let above = Interval::integer(factor.high, bits).sub(enclosed);
+    let inside = match (below.not_negative(), above.not_negative()) {
+        (Some(not_below), Some(not_above)) => not_below && not_above,
+        _ => return None,
+    };
+    Some(YearCheck {
+        year,
+        factor,
+        inside,
+        slack_below: below.times(SLACK_UNIT).low_floor(),
+        slack_above: above.times(SLACK_UNIT).low_floor(),
+    })
+}
+
+/// The checks of years 21 to 150, or none if one is undecided at this precision.
+fn extrapolated_checks(
+    sheet: &Sheet,
+    curve: &Curve,
+    quotes: &TrueQuotes,
+    order: usize,
+    bits: usize,
+) -> Option<Vec<YearCheck>> {
+    true_extrapolation(sheet, quotes, order, bits)
+        .iter()
+        .zip(FIRST_SMOOTHING_POINT + 1..=YEARS)
+        .map(|(enclosed, year)| interval_check(year, curve.factor(year), enclosed))
+        .collect()
+}
+
+/// True factors of years 21 to 150, in billionths.
+fn true_extrapolation(
+    sheet: &Sheet,
+    quotes: &TrueQuotes,
+    order: usize,
+    bits: usize,
+) -> Vec<Interval> {
+    let ultimate = true_log_ultimate(sheet.ufr, order, bits);
+    let last_liquid = true_last_liquid_forward(sheet, quotes, order, bits);
+    let start = &quotes.factors[FIRST_SMOOTHING_POINT - 1];
+    let mut factor = Interval::ratio(&start.numerator, &start.denominator, bits);
+    let mut factors = Vec::new();
+    for weight in true_weights(HORIZON, order, bits) {
+        let rest = Interval::integer(1, bits).sub(&weight);
+        let forward = ultimate.mul(&rest).add(&last_liquid.mul(&weight));
+        factor = factor.mul(&exp_of_minus(&forward, order));
+        factors.push(factor.clone());
+    }
+    factors
+}
+
+/// ln(1 + UFR) as a part of one: minus G at U + 10,000 × UFR.
+fn true_log_ultimate(ufr: u16, order: usize, bits: usize) -> Interval {
+    let x = BigInt::from(U + UFR_UNIT * i128::from(ufr));
+    true_neg_log(&x, &BigInt::from(U), order, bits).neg()
+}
+
+/// G at x / one, as a part of one. The sum is odd in z, so a signed z covers x above
+/// one as well.
+fn true_neg_log(x: &BigInt, one: &BigInt, order: usize, bits: usize) -> Interval {
+    let z = Interval::ratio(&(one - x), &(one + x), bits);
+    let square = z.mul(&z);
+    let mut power = z.clone();
+    let mut sum = z;
+    for i in 1..LOG_TERMS + order {
+        power = power.mul(&square);
+        sum = sum.add(&power.div_whole(2 * i as i128 + 1));
+    }
+    sum.times(2)
+}
+
+/// LLFR as a part of one.
+fn true_last_liquid_forward(
+    sheet: &Sheet,
+    quotes: &TrueQuotes,
+    order: usize,
+    bits: usize,
+) -> Interval {
+    let forwards = quotes
+        .yearly_factors
+        .iter()
+        .map(|yearly| true_neg_log(&yearly.numerator, &yearly.denominator, order, bits));
+    let mut sum = Interval::integer(0, bits);
+    for (gap, forward) in forwards.enumerate() {
+        let multiple: i128 = sheet
+            .volumes
+            .iter()
+            .zip(TWELVEFOLD_MEANS)
+            .map(|(&volume, means)| i128::from(volume) * means[gap])
+            .sum();
+        sum = sum.add(&forward.times(multiple));
+    }
+    sum.div_whole(
+        12 * sheet
+            .volumes
+            .iter()
+            .map(|&volume| i128::from(volume))
+            .sum::<i128>(),
+    )
+}
+
+/// k(1) to k(count) of order n, as parts of one.
+pub fn true_weights(count: usize, order: usize, bits: usize) -> Vec<Interval> {
+    let tenth = Interval::ratio(&BigInt::one(), &BigInt::from(10), bits);
+    let q = exp_sum(&tenth, order).reciprocal();
+    let mut weight = Interval::integer(1, bits).sub(&q).times(10);
+    let mut weights = Vec::new();
+    for _ in 0..count {
+        weights.push(weight.clone());
+        weight = weight.mul(&q);
+    }
+    weights
+}
+
+/// The exponential's sum through term 12 + n, for `y` from 0 up.
+fn exp_sum(y: &Interval, order: usize) -> Interval {
+    let mut term = Interval::integer(1, y.bits());
+    let mut sum = term.clone();
+    for i in 1..=LAST_EXP_TERM + order {
+        term = term.mul(y).div_whole(i as i128);
+        sum = sum.add(&term);
+    }
+    sum
+}
+
+/// e to minus the forward. On both sides of 0 it falls as the forward rises and both
+/// sides meet in 1, so the ends of the forward give the ends of the result.
+fn exp_of_minus(forward: &Interval, order: usize) -> Interval {
+    let low = exp_of_minus_point(&forward.high_point(), order);
+    let high = exp_of_minus_point(&forward.low_point(), order);
+    low.up_to(&high)
+}
+
+/// e to minus an exact forward: one over the sum for 0 or more, else the sum.
+fn exp_of_minus_point(forward: &Interval, order: usize) -> Interval {
+    if forward.low_is_negative() {
+        exp_sum(&forward.neg(), order)
+    } else {
+        exp_sum(forward, order).reciprocal()
+    }
+}

@@ -1,0 +1,66 @@
+//! Sheets for the tests, written byte by byte as the sheet's layout says.
+
+/// Quoted maturities in their order.
+pub const MATURITIES: [u8; 17] = [1, 2, 3, 4, 5, 6, 7, 8, 9, 10, 12, 15, 20, 25, 30, 40, 50];
+
+/// The numbers of a sheet, not checked in any way.
+#[derive(Clone)]
+pub struct Numbers {
+    pub month: u16,
+    pub rates: [i16; 17],
+    pub volumes: [u32; 5],
+    pub ufr: u16,
+    pub limit: u32,
+}
+
+/// The zero sheet: month, rates and UFR 0, volumes 1, limit 100,000.
+pub fn zero() -> Numbers {
+    Numbers {
+        month: 0,
+        rates: [0; 17],
+        volumes: [1; 5],
+        ufr: 0,
+        limit: 100_000,
+    }
+}
+
+/// The zero sheet with all rates at `rate`.
+#[allow(dead_code)]
+pub fn flat(rate: i16) -> Numbers {
+    Numbers {
+        rates: [rate; 17],
+        ..zero()
+    }
+}
+
+impl Numbers {
+    /// The sheet with the rate of `maturity` replaced.
+    #[allow(dead_code)]
+    pub fn with_rate(mut self, maturity: u8, rate: i16) -> Self {
+        let index = MATURITIES
+            .iter()
+            .position(|&m| m == maturity)
+            .expect("a quoted maturity");
+        self.rates[index] = rate;
+        self
+    }
+
+    /// The sheet's bytes.
+    pub fn bytes(&self) -> Vec<u8> {
+        let mut bytes = vec![0x01];
+        bytes.extend(self.month.to_be_bytes());
+        for (maturity, rate) in MATURITIES.into_iter().zip(self.rates) {
+            bytes.extend([0x02, maturity]);
+            bytes.extend(rate.to_be_bytes());
+        }
+        for (maturity, volume) in [20, 25, 30, 40, 50].into_iter().zip(self.volumes) {
+            bytes.extend([0x03, maturity]);
+            bytes.extend(volume.to_be_bytes());
+        }
+        bytes.push(0x04);
+        bytes.extend(self.ufr.to_be_bytes());
+        bytes.push(0x05);
+        bytes.extend(self.limit.to_be_bytes());
+        bytes
+    }
+}
