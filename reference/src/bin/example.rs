@@ -1,0 +1,68 @@
+//! Writes the example of the README: two months at an office, as the desk's records or,
+//! with `journal` as argument, as a journal of the C interface.
+
+use std::io::Write;
+
+use reference::sheet::Sheet;
+use reference::streams::sheet_bytes;
+
+/// September 2026, in months since January 2000.
+const SEPTEMBER: u16 = 320;
+const OCTOBER: u16 = SEPTEMBER + 1;
+
+/// The index of the quote of maturity 12.
+const QUOTE_12: usize = 10;
+
+fn main() -> std::io::Result<()> {
+    let journal = std::env::args().nth(1).as_deref() == Some("journal");
+    let post = |sheet: &Sheet| {
+        let bytes = sheet_bytes(sheet);
+        let length = (bytes.len() as u16).to_be_bytes();
+        let framing: &[u8] = if journal { &length } else { &[] };
+        [&[0x50], framing, &bytes].concat()
+    };
+    let september = sheet(SEPTEMBER, 0);
+    let october = sheet(OCTOBER, 12);
+    let mut mistyped = october.clone();
+    mistyped.rates[QUOTE_12] = 12_001;
+    let calls = [
+        turn(SEPTEMBER),
+        post(&september),
+        look_up(1),
+        look_up(20),
+        look_up(60),
+        look_up(150),
+        turn(OCTOBER),
+        look_up(20),
+        post(&sheet(OCTOBER + 1, 0)),
+        post(&mistyped),
+        post(&october),
+        look_up(20),
+        post(&september),
+        look_up(151),
+    ];
+    std::io::stdout().write_all(&calls.concat())
+}
+
+fn turn(month: u16) -> Vec<u8> {
+    [&[0x4D], &month.to_be_bytes()[..]].concat()
+}
+
+fn look_up(year: u8) -> Vec<u8> {
+    vec![0x4C, year]
+}
+
+/// A calm curve: 2.1% in the first year, 2.9% in the thirtieth, all moved by `shift`.
+fn sheet(month: u16, shift: i16) -> Sheet {
+    let rates = [
+        2_100, 2_140, 2_190, 2_240, 2_290, 2_340, 2_390, 2_435, 2_480, 2_520, 2_590, 2_680, 2_790,
+        2_860, 2_900, 2_880, 2_840,
+    ];
+    Sheet {
+        month,
+        rates: rates.map(|rate| rate + shift),
+        volumes: [1_200, 350, 900, 210, 430],
+        ufr: 3_450,
+        limit: 2_500,
+    }
+}
