@@ -1,16 +1,20 @@
 /* Prints the month and the age of the curve that a journal leaves: month_and_age < journal
- * Build: rt staticlib replay && cc -Iinclude examples/month_and_age.c target/staticlib/libreplay.a -o month_and_age */
+ * Build: rt staticlib replay && cc -Iinclude examples/month_and_age.c target/staticlib/libreplay.a -o month_and_age
+ * It compiles as C++ too, hence the casts. */
 #include <stdio.h>
 #include <stdlib.h>
 #include "tuyqorem.h"
 
 int main(void) {
     size_t held = 0, room = 1 << 16;
-    uint8_t *calls = malloc(room);
+    uint8_t *calls = (uint8_t *)malloc(room);
     while (calls != NULL) {
         held += fread(calls + held, 1, room - held, stdin);
         if (held < room) break;
-        calls = realloc(calls, room *= 2);
+        room *= 2;
+        uint8_t *larger = (uint8_t *)realloc(calls, room);
+        if (larger == NULL) free(calls);
+        calls = larger;
     }
     if (calls == NULL) return 1;
     static uint8_t page[1505];
