@@ -18,7 +18,7 @@ extern "C" {
     ) -> u64;
 }
 
-/// Document 01's number of the ground, or 0.
+/// The number of the ground, or 0.
 pub fn look_after(calls: &[u8], year: u64, out: &mut [u8]) -> u64 {
     // SAFETY: both slices are valid for their lengths, and a `&mut` overlaps nothing.
     unsafe {
@@ -32,7 +32,7 @@ pub fn look_after(calls: &[u8], year: u64, out: &mut [u8]) -> u64 {
     }
 }
 
-/// Document 01's number of the ground, or 0.
+/// The number of the ground, or 0.
 pub fn page_after(calls: &[u8], out: &mut [u8]) -> u64 {
     // SAFETY: both slices are valid for their lengths, and a `&mut` overlaps nothing.
     unsafe { tuyqorem_page_after(calls.as_ptr(), calls.len(), out.as_mut_ptr(), out.len()) }

@@ -277,7 +277,7 @@ pub fn page(book: Book, out: &mut [u8]) -> PageAnswer
     }
 }
 
-// ---- document 01's number and place of each answer; 0 and 0 where the call was accepted
+// ---- SPECIFICATION 9: the number and the place of each answer; 0 and 0 where the call was accepted
 
 pub fn post_number(answer: PostAnswer) -> u64
     ensures { λ r. ⌜ r ≡ postNumber (postAnswerOf answer) ⌝ }

@@ -50,7 +50,7 @@ abbrev pub heldIn : Outcome method.Curve → method.Curve
 heldIn (refused g) = noCurve
 heldIn (done c) = c
 
--- ---- document 01's number and place, 0 and 0 where the sheet is worked
+-- ---- SPECIFICATION 9: number and place, 0 and 0 where the sheet is worked
 
 abbrev pub numberBy : {A : Type 0} → Outcome A → ℕ
 numberBy (refused g) = numberOf g

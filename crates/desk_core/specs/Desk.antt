@@ -1,4 +1,4 @@
--- Document 01, Desk program: what is printed for an input, and what for a block of it.
+-- SPECIFICATION 10: what the desk prints for an input, and for a block of it.
 use mathlib.Core.Bool.{Bool, true, false, cond}
 use mathlib.Core.List.{List, [], _∷_, _++_}
 use Prim.Native.Nat.{ℕ, zero, suc, _+_}

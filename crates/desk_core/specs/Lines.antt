@@ -1,4 +1,4 @@
--- Document 01, Desk program: the lines, as bytes of text.
+-- SPECIFICATION 10: the desk's lines, as bytes of text.
 use mathlib.Core.Bool.{cond}
 use mathlib.Core.List.{List, [], _∷_, _++_}
 use Prim.Native.Nat.{ℕ, zero, suc, _+_, _/_, _%_}

@@ -62,7 +62,7 @@ pub record AllBounded (g : Forwards) : Type 0 where
   pub lows-bound : (i : ℕ) → natAbs (getD (g .lows) i (pos 0)) ≤ forwardBound
   pub highs-bound : (i : ℕ) → natAbs (getD (g .highs) i (pos 0)) ≤ forwardBound
 
--- document 01, Sheet: a traded volume's range
+-- SPECIFICATION 2: a traded volume's range
 abbrev pub volumeBound : ℕ
 volumeBound = 1_000_000
 

@@ -1,4 +1,4 @@
--- The rounding fact: for every operation of document 01, rounded down ≤ exact ≤ rounded up.
+-- The rounding fact: for every operation that rounds, rounded down ≤ exact ≤ rounded up.
 use mathlib.Core.List.{List, [], _∷_}
 use Prim.Native.Nat.{ℕ, _<_}
 use lib.Dec.{lit<}

@@ -1,15 +1,16 @@
--- Rounding of quotients, the operations of document 01 with their exact and rounded values, and what encloses a fraction.
+-- SPECIFICATION 1: rounding of quotients, the operations that round with their exact and rounded values, and what encloses a
+-- fraction.
 use mathlib.Core.List.{List, [], _∷_}
 use Prim.Native.Nat.{ℕ, suc, _+_, _*_, _-_, _/_, _<_}
 use lib.Dec.{lit<}
 use lib.IntN.{ℤ, pos, negsuc, negℤ, _+ℤ_, _*ℤ_}
 use Rattle.fraction.specs.Fraction.{ℚ, _≤ℚ_, natℚ, intℚ, _+ℚ_, _*ℚ_, _÷_}
 
--- document 01, Units: U
+-- the unit
 abbrev pub U : ℕ
 U = 1_000_000_000
 
--- ---- an integer over a positive natural, as document 01 rounds it
+-- ---- an integer over a positive natural, rounded
 
 -- down: toward minus infinity
 abbrev pub floor : ℤ → ℕ → ℤ

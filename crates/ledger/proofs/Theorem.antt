@@ -1,4 +1,4 @@
--- Demand 3 over every list of calls; the count by the answers that a caller saw; demand 1.
+-- Demand 3 over every list of calls; the count by the answers that a caller saw; demands 1 and 2.
 use mathlib.Core.Path.{_≡_, refl, ap, sym, subst, _∙_}
 use mathlib.Core.Bool.{Bool, true, false, cond, not}
 use mathlib.Core.List.{List, [], _∷_, _++_}

@@ -1,4 +1,4 @@
--- What the four calls answer, and document 01's number and place of each refusal.
+-- SPECIFICATION 7 and 9: what the four calls answer, and the number and place of each refusal.
 use Prim.Native.Nat.{ℕ}
 use Rattle.method.specs.Grounds.{Ground}
 use Rattle.method.specs.Grounds as ground

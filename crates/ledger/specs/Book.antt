@@ -1,4 +1,4 @@
--- Document 01, Book and page: the book, and what each call answers and leaves behind, with grounds 1 to 15 in their order.
+-- SPECIFICATION 7: the book, and what each call answers and leaves behind, with grounds 1 to 15 in their order.
 use mathlib.Core.Bool.{Bool, true, false, cond}
 use mathlib.Core.List.{List, _++_}
 use Prim.Native.Nat.{ℕ, _+_, _-_}

@@ -1,4 +1,4 @@
--- Every list of calls: the run from a fresh book; and the count, from what the calls bring alone.
+-- SPECIFICATION 8: every list of calls. The run from a fresh book; and the count, from what the calls bring alone.
 use mathlib.Core.Bool.{Bool, true, false, cond}
 use mathlib.Core.List.{List, [], _∷_}
 use Prim.Native.Nat.{ℕ, _+_, _*_}

@@ -1,4 +1,4 @@
--- The demands, as statements over the definitions.
+-- SPECIFICATION 8: the three demands, as statements over the definitions.
 use mathlib.Core.Path.{_≡_}
 use mathlib.Core.Bool.{Bool, true, false, cond, not}
 use mathlib.Core.Logic.{_↔_}
@@ -139,7 +139,7 @@ pub record Demand1 (b : Book) : Type 0 where
   pub page-14 : (l : List ℕ) → b .has ≡ false → page b l ≡ record { buffer = l; answer = NothingToPage }
   pub page-15 : (l : List ℕ) → b .has ≡ true → length l < 1_505 → page b l ≡ record { buffer = l; answer = BufferTooShort }
 
--- ═══ Demand 2: a post accepts precisely the sheets, and stores precisely the numbers, that document 01's steps give; a
+-- ═══ Demand 2: a post accepts precisely the sheets, and stores precisely the numbers, that the definitions give; a
 -- page carries exactly the book's numbers
 
 -- numbers that fit the page's bytes; every book of a list of calls has them

@@ -1,4 +1,4 @@
--- Document 01, Book and page: the 1,505 bytes of a page.
+-- SPECIFICATION 7: the 1,505 bytes of a page.
 use mathlib.Core.List.{List, [], _∷_, _++_}
 use Prim.Native.Nat.{ℕ, suc, _+_, _/_, _%_}
 

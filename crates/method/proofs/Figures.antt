@@ -1,4 +1,4 @@
--- Document 01's figures, by computation over the definitions.
+-- The figures of SPECIFICATION 12, by computation over the definitions.
 use mathlib.Core.Path.{refl}
 use Rattle.method.specs.Figures.{MarkedFigures, OtherFigures, rateRecords, volumeRecords, factorsOf, yearsOf, verdictOf}
 use Rattle.method.proofs.Computes.{computes}

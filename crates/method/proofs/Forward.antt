@@ -30,7 +30,7 @@ use Rattle.method.proofs.Size.{Bounded, Within, bounded-+, bounded-time
 
 -- ---- means, weights of any number
 
--- 000's weights V/ΣV times forwards are one sum of products over ΣV
+-- the method paper's weights V/ΣV times forwards are one sum of products over ΣV
 pub weighted-sum : (vs : List ℕ) (all : ℚ) (fs : List ℚ) → weighted vs all fs ≈ yearsSum vs fs ÷ all
 unfolding weighted yearsSum
 weighted-sum [] all fs = ≈-sym (zero-*ℚ (recip all))
@@ -70,7 +70,7 @@ mean-is ks fs c d s h e =
 abbrev pub zeroPair : SignedPair
 zeroPair = signedPair (pos 0) (pos 0)
 
--- a term of document 01's numerator
+-- a term of the numerator of SPECIFICATION 5.1
 term-encloses : (c v : ℕ) {a b : ℤ} {x : ℚ} → Encloses a b x →
     Encloses (pos c *ℤ pos v *ℤ a) (pos c *ℤ pos v *ℤ b) (natℚ v *ℚ (natℚ c *ℚ x))
 term-encloses c v {x = x} h =
@@ -79,7 +79,7 @@ term-encloses c v {x = x} h =
     (encloses-times (c * v) h)
 
 module _ (v1 v2 v3 v4 v5 : ℕ) (f1 f2 f3 f4 f5 : ℚ) where
-  -- document 01's numerator, without rounding
+  -- that numerator, without rounding
   unfoldable pub numerator : ℚ
   numerator =
       natℚ v1 *ℚ (natℚ 12 *ℚ f1)
@@ -88,7 +88,7 @@ module _ (v1 v2 v3 v4 v5 : ℕ) (f1 f2 f3 f4 f5 : ℚ) where
       +ℚ natℚ v4 *ℚ (natℚ 3 *ℚ (f2 +ℚ f3 +ℚ natℚ 2 *ℚ f4))
       +ℚ natℚ v5 *ℚ (natℚ 2 *ℚ (f2 +ℚ f3 +ℚ natℚ 2 *ℚ f4 +ℚ natℚ 2 *ℚ f5))
 
-  -- it is twelve times the volumes' sum of products with 000's means over years from 20
+  -- it is twelve times the volumes' sum of products with the method paper's means over years from 20
   numerator-is : numerator ≈ natℚ 12 *ℚ yearsSum (v1 ∷ v2 ∷ v3 ∷ v4 ∷ v5 ∷ []) (marketForwards (f1 ∷ f2 ∷ f3 ∷ f4 ∷ f5 ∷ []))
   unfolding numerator marketForwards gapYearsFrom20 yearsSum yearsTotal
   numerator-is =

@@ -147,7 +147,7 @@ module _ (n k : ℕ) (g : Gap) (ends : PassesEnds g) (hk : g .years ≡ suc k) {
           (≤ℚ-<ℚ-trans (≤ℚ-≈-trans (natℚ-mono (omega (arith, highX-within g))) (≈-sym (multiple-whole n 2_000_000_000))) (multiple-strict n (rw bound at l)))
           (at-most-high m e))
 
-  -- document 01: the largest multiple, from 0 up, at which the swap's value is at most par; no bound is left
+  -- SPECIFICATION 6: the largest multiple, from 0 up, at which the swap's value is at most par; no bound is left
   pub chosen-passes : passes (chosen n (g .rate) a t (g .years)) ≡ true
   unfolding chosen
   chosen-passes = largest-passes passes (2 * 10 ^ (9 + n)) (lowX g * 10 ^ n) (within-bound _ low-passes) low-passes

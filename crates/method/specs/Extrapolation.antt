@@ -1,4 +1,4 @@
--- Document 01, Extrapolated years 21 to 150; and grounds 8 and 10 on them.
+-- SPECIFICATION 5: extrapolated years 21 to 150, with grounds 8 and 10.
 use mathlib.Core.Bool.{Bool, true, false, cond, not}
 use mathlib.Core.List.{List, [], _∷_, _++_, map}
 use Prim.Native.Nat.{ℕ, zero, suc, _+_, _*_, _-_, _/_}

@@ -1,4 +1,4 @@
--- Document 01, Figures to check by: the marked ones, and those of the zero sheet that are not marked, as one list.
+-- SPECIFICATION 12: the figures marked * and those marked +, each as one list.
 use mathlib.Core.Path.{_≡_}
 use mathlib.Core.List.{List, [], _∷_, _++_}
 use Prim.Native.Nat.{ℕ, zero, suc, _+_, _-_, _/_, _%_}

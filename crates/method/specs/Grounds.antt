@@ -1,4 +1,4 @@
--- Document 01, Grounds for turning a call down: 1 to 10, those of a post, each with its number and place.
+-- SPECIFICATION 9: grounds 1 to 10, those of a post, each with its number and place.
 use mathlib.Core.Bool.{Bool, true, false}
 use Prim.Native.Nat.{ℕ}
 

@@ -1,4 +1,4 @@
--- Document 01, Factors from the quotes; and grounds 7, 8, 9 on the years from the quotes.
+-- SPECIFICATION 3: factors from the quotes, with grounds 7, 8 and 9 on their years.
 use mathlib.Core.Bool.{Bool, true, false, cond, not}
 use mathlib.Core.List.{List, [], _∷_, _++_, map}
 use Prim.Native.Nat.{ℕ, zero, suc, _+_, _*_, _-_, _/_}

@@ -1,4 +1,4 @@
--- Document 01, Logarithm and growth.
+-- SPECIFICATION 4: logarithm and growth.
 use mathlib.Core.Bool.{Bool, true, false, cond}
 use Prim.Native.Nat.{ℕ, zero, suc, _+_, _*_, _-_, _/_}
 use lib.Dec.{leb}

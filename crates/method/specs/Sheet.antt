@@ -1,4 +1,4 @@
--- Document 01, Sheet; and grounds 1 to 4.
+-- SPECIFICATION 2: the sheet, with grounds 1 to 4.
 use mathlib.Core.Bool.{Bool, true, false, cond, not}
 use mathlib.Core.List.{List, [], _∷_, _++_, map}
 use Prim.Native.Nat.{ℕ, zero, suc, _+_, _*_}
@@ -90,7 +90,7 @@ turns = turnsFrom 0 entries
 
 -- ---- a record's body and number
 
--- "the body back as a part of the sheet"
+-- a part of the sheet
 abbrev pub bodyOf : List ℕ → Turn → List ℕ
 bodyOf s t = take (bodyLength (t .kind)) (drop (t .start + 1) s)
 

@@ -1,4 +1,4 @@
--- Document 01, Extrapolated years: the constant table K(h), h from 1 to 130.
+-- SPECIFICATION 5.2: the constant table K(h), h from 1 to 130.
 use mathlib.Core.List.{List, [], _∷_}
 use Prim.Native.Nat.{ℕ}
 

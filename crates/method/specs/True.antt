@@ -1,5 +1,5 @@
--- Document 01, The true curve of order n: no rounding, worked from the sheet's numbers alone, still in billionths. Written
--- from source 000, beside the computed curve and not by it; 000's names stand in the comments.
+-- SPECIFICATION 6: the true curve of order n. No rounding, worked from the sheet's numbers alone, still in billionths. Written
+-- from the method paper, beside the computed curve and not by it; the paper's names stand in the comments.
 use mathlib.Core.Bool.{Bool, true, false, cond}
 use mathlib.Core.List.{List, [], _∷_, _++_, map}
 use Prim.Native.Nat.{ℕ, zero, suc, _+_, _*_, _-_, _^_}
@@ -49,7 +49,7 @@ parFactor r a = (billion *ℚ natℚ 100_000 -ℚ intℚ r *ℚ a) ÷ (natℚ 10
 unfoldable pub onward : ℚ → ℚ → ℕ → ℚ
 onward t x j = t *ℚ powℚ (x ÷ billion) j
 
--- r (sum of the factors) + the last factor: 000's equation for f_{15,20}, its left side
+-- r (sum of the factors) + the last factor: the left side of the paper's equation for f_{15,20}
 unfoldable pub swapValue : ℤ → ℚ → ℚ → ℕ → ℚ → ℚ
 swapValue r a t k x = intℚ r *ℚ (a +ℚ sumℚ (λ j. onward t x (suc j)) k) +ℚ natℚ 100_000 *ℚ onward t x k
 
@@ -66,7 +66,7 @@ largest p zero = zero
 largest p (suc b) = let less = largest p b in cond (p (suc b)) (suc b) less
 
 -- "the largest multiple, from 0 up, at which the swap's value is at most par". The search stops at twice the unit;
--- that no larger one passes either is proved (`proofs/Crossing`).
+-- that no larger one passes either is proved (`chosen-largest` in `proofs/Gap`).
 unfoldable pub chosen : ℕ → ℤ → ℚ → ℚ → ℕ → ℕ
 chosen n r a t k = largest (atMostPar n r a t k) (2 * 10 ^ (9 + n))
 

@@ -1,4 +1,4 @@
--- Document 01, Units. U itself stands beside the rounding, in `fraction`.
+-- SPECIFICATION 1: units. U itself stands beside the rounding, in `fraction`.
 use Prim.Native.Nat.{ℕ, _*_}
 use lib.IntN.{ℤ}
 use Rattle.fraction.specs.Rounding.{U}

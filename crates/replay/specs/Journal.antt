@@ -1,4 +1,4 @@
--- The journal: calls written as bytes. Every byte string means some list of calls.
+-- SPECIFICATION 11: the journal, calls written as bytes. Every byte string means some list of calls.
 use mathlib.Core.Bool.{cond}
 use mathlib.Core.List.{List, [], _∷_, _++_}
 use Prim.Native.Nat.{ℕ, zero, suc, _+_, _<_}

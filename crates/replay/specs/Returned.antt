@@ -1,4 +1,4 @@
--- What the C interface returns: a number, and what stands in the buffer.
+-- SPECIFICATION 11: what the C interface returns, a number and what stands in the buffer.
 use mathlib.Core.Bool.{cond}
 use mathlib.Core.List.{List, _++_}
 use mathlib.Core.Path.{_≡_}
