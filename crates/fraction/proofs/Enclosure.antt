@@ -8,13 +8,14 @@ use native.Mathlib.Omega.{arith}
 use lib.IntN.{ℤ, pos, negsuc, negℤ, _+ℤ_, _-ℤ_, _*ℤ_}
 use lib.Signed.{_≤ℤ_}
 use Rattle.fraction.specs.Fraction.{ℚ, _≈_, _≤ℚ_, NonNegative, NonPositive, Positive, natℚ, intℚ, negℚ, _+ℚ_, _-ℚ_, _*ℚ_, _÷_}
-use Rattle.fraction.specs.Rounding.{floor, ceiling, ceilDiv, Product, wholeSum, Encloses}
+use Rattle.fraction.specs.Rounding.{floor, ceiling, ceilDiv, Product, quotient, weighted, wholeSum, exact, roundedDown, roundedUp, Encloses}
 use Rattle.fraction.proofs.Order.{≤ℚ-trans, ≤ℚ-refl, ≤ℚ-≈-trans, ≈-≤ℚ-trans, ≈→≤, ≈→≥, ≈-refl, ≈-sym, ≈-trans, sign, nonNegative-up, positive-up}
 use Rattle.fraction.proofs.Sum.{+ℚ-mono, +ℚ-mono-right, negℚ-anti}
 use Rattle.fraction.proofs.Product.{*ℚ-mono, *ℚ-mono-left, *ℚ-mono-right, *ℚ-anti-left, *ℚ-anti-right, *ℚ-cong-left, *ℚ-comm}
 use Rattle.fraction.proofs.Integer.{natℚ-nonNegative, natℚ-positive, natℚ-mono, intℚ-pos, intℚ-mono, intℚ-reflects, intℚ-neg, intℚ-+, intℚ-*}
 use Rattle.fraction.proofs.Quotient.{÷-mono-left, ÷-mono, ÷-cong-left}
-use Rattle.fraction.proofs.Floor.{floor-≤, ceiling-≥, ceiling-pos}
+use Rattle.fraction.proofs.Floor.{ceiling-pos}
+use Rattle.fraction.proofs.Rounding.{rounding, wholeSum-exact}
 
 -- ---- what an enclosure is
 
@@ -88,13 +89,14 @@ encloses-times w {x = x} h =
     encloses-≈ (*ℚ-cong-left x (intℚ-pos w))
     (encloses-times-nonNegative (pos w) (nonNegative-up (natℚ-nonNegative w) (≈→≥ (intℚ-pos w))) h)
 
--- ---- a known positive divisor
+-- ---- a known positive divisor: the rounding fact at the two ends, which every rounded step below goes through
 
 pub encloses-÷ : {a b : ℤ} {x : ℚ} {d : ℕ} → 0 < d → Encloses a b x → Encloses (floor a d) (ceiling b d) (x ÷ natℚ d)
+unfolding exact roundedDown roundedUp
 encloses-÷ {a} {b} {d = d} k h =
     record {
-      below = ≤ℚ-trans (floor-≤ a k) (÷-mono-left (natℚ d) (h .below));
-      above = ≤ℚ-trans (÷-mono-left (natℚ d) (h .above)) (ceiling-≥ b k);
+      below = ≤ℚ-trans (rounding (quotient a d k) .below) (÷-mono-left (natℚ d) (h .below));
+      above = ≤ℚ-trans (÷-mono-left (natℚ d) (h .above)) (rounding (quotient b d k) .above);
     }
 
 pub encloses-÷-nat : {a b : ℕ} {x : ℚ} {d : ℕ} → 0 < d → Encloses (pos a) (pos b) x → Encloses (pos (a / d)) (pos (ceilDiv b d)) (x ÷ natℚ d)
@@ -161,7 +163,13 @@ sum-encloses (t ∷ ts) = encloses-+ (encloses-times (t .weight) (t .holds)) (su
 
 pub encloses-weighted : (ts : List Term) {d : ℕ} → 0 < d →
     Encloses (floor (wholeSum (lows ts)) d) (ceiling (wholeSum (highs ts)) d) (values ts ÷ natℚ d)
-encloses-weighted ts h = encloses-÷ h (sum-encloses ts)
+unfolding exact roundedDown roundedUp
+encloses-weighted ts {d} h =
+    let sums = sum-encloses ts in
+    record {
+      below = ≤ℚ-trans (rounding (weighted (lows ts) d h) .below) (÷-mono-left (natℚ d) (≈-≤ℚ-trans (≈-sym (wholeSum-exact (lows ts))) (sums .below)));
+      above = ≤ℚ-trans (÷-mono-left (natℚ d) (≤ℚ-≈-trans (sums .above) (wholeSum-exact (highs ts)))) (rounding (weighted (highs ts) d h) .above);
+    }
 
 -- ---- a blend p + q × κ is bounded by its values at the two ends of κ
 

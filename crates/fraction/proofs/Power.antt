@@ -5,10 +5,12 @@ use Prim.Native.Nat.{ℕ, zero, suc, _+_, _^_, _≤_, _<_}
 use native.Mathlib.Nat.{add-zero, add-suc, le-suc-iff, pow-zero, pow-suc}
 use native.Mathlib.Omega.{arith}
 use Rattle.fraction.specs.Fraction.{ℚ, _≈_, _≤ℚ_, _<ℚ_, NonNegative, Positive, natℚ, negℚ, _+ℚ_, _*ℚ_, powℚ, sumℚ}
-use Rattle.fraction.proofs.Order.{≤ℚ-refl, ≤ℚ-trans, ≈→≤, ≈→≥, ≈-refl, ≈-sym, ≈-trans, ≤ℚ-≈-trans, ≈-≤ℚ-trans, ≤ℚ-<ℚ-trans, <ℚ-≤ℚ-trans, <ℚ→≤ℚ, positive→nonNegative, nonNegative-up, positive-up, ≡→≈}
+use Rattle.fraction.proofs.Order.{≤ℚ-refl, ≤ℚ-trans, ≈→≤, ≈-refl, ≈-sym, ≈-trans, ≤ℚ-≈-trans, ≈-≤ℚ-trans}
+use Rattle.fraction.proofs.Order.{≤ℚ-<ℚ-trans, <ℚ-≤ℚ-trans, <ℚ→≤ℚ, positive→nonNegative, nonNegative-up, ≡→≈}
 use Rattle.fraction.proofs.Integer.{natℚ-nonNegative, natℚ-positive, natℚ-*}
 use Rattle.fraction.proofs.Sum.{+ℚ-comm, +ℚ-assoc, +ℚ-mono, +ℚ-cong, +ℚ-nonNegative, ≤-+ℚ-right, negℚ-+ℚ}
-use Rattle.fraction.proofs.Product.{*ℚ-comm, *ℚ-assoc, *ℚ-one, one-*ℚ, *ℚ-zero, *ℚ-+ℚ, *ℚ-cong, *ℚ-cong-left, *ℚ-cong-right, *ℚ-mono, *ℚ-mono-right, *ℚ-strict-left, *ℚ-nonNegative, *ℚ-positive}
+use Rattle.fraction.proofs.Product.{*ℚ-comm, *ℚ-assoc, *ℚ-one, *ℚ-zero, *ℚ-+ℚ, *ℚ-cong, *ℚ-cong-left, *ℚ-cong-right}
+use Rattle.fraction.proofs.Product.{*ℚ-mono, *ℚ-mono-right, *ℚ-strict-left, *ℚ-nonNegative, *ℚ-positive}
 
 -- ---- powers
 

@@ -5,7 +5,9 @@ use Prim.Native.Nat.{ℕ, _+_, _*_, _≤_, _<_}
 use native.Mathlib.Nat.{mul-le-mul-right, mul-lt-mul-of-pos-right, mul-pos, le-dest}
 use native.Mathlib.Omega.{arith}
 use Rattle.fraction.specs.Fraction.{ℚ, _≈_, _≤ℚ_, _<ℚ_, NonNegative, NonPositive, Positive, natℚ, negℚ, _+ℚ_, _-ℚ_, _*ℚ_}
-use Rattle.fraction.proofs.Order.{≤ℚ-refl, ≤ℚ-trans, ≤ℚ-antisym, ≤ℚ-total, ≈→≤, ≈→≥, ≈-refl, ≈-sym, ≈-trans, ≈-expand, <ℚ→≤ℚ, <ℚ-irrefl, <ℚ-not-≤ℚ, not-≤ℚ→<ℚ, <ℚ-≤ℚ-trans, ≤ℚ-<ℚ-trans, ≤ℚ-≈-trans, ≈-≤ℚ-trans, nonNegative→≤, ≤→nonNegative, positive→<, <→positive, positive→nonNegative, neg-nonPositive, nonPositive→≤, sign}
+use Rattle.fraction.proofs.Order.{≤ℚ-trans, ≤ℚ-total, ≈→≤, ≈→≥, ≈-sym, ≈-trans, ≈-expand, <ℚ-irrefl, <ℚ-not-≤ℚ}
+use Rattle.fraction.proofs.Order.{not-≤ℚ→<ℚ, <ℚ-≤ℚ-trans, ≤ℚ-<ℚ-trans, ≤ℚ-≈-trans, ≈-≤ℚ-trans, nonNegative→≤}
+use Rattle.fraction.proofs.Order.{≤→nonNegative, positive→<, <→positive, neg-nonPositive, nonPositive→≤, sign}
 use Rattle.fraction.proofs.Sum.{negℚ-anti}
 
 -- ---- a commutative ring
@@ -62,8 +64,13 @@ pub *ℚ-cong : {x y z w : ℚ} → x ≈ y → z ≈ w → x *ℚ z ≈ y *ℚ 
 
 -- ---- monotone by a factor that is not negative
 
+-- the left side of x *ℚ z against y *ℚ z, with q in place of z .p
+abbrev side : ℚ → ℚ → ℚ → ℕ → ℕ
+side x y z q = (x .p * q + x .m * z .m) * (y .d * z .d) + (y .p * z .m + y .m * q) * (x .d * z .d)
+
 mono-core : (px mx dx py my dy mz dz k : ℕ) → px * dy + my * dx ≤ py * dx + mx * dy →
-    (px * (mz + k) + mx * mz) * (dy * dz) + (py * mz + my * (mz + k)) * (dx * dz) ≤ (py * (mz + k) + my * mz) * (dx * dz) + (px * mz + mx * (mz + k)) * (dy * dz)
+    (px * (mz + k) + mx * mz) * (dy * dz) + (py * mz + my * (mz + k)) * (dx * dz) ≤
+    (py * (mz + k) + my * mz) * (dx * dz) + (px * mz + mx * (mz + k)) * (dy * dz)
 mono-core px mx dx py my dy mz dz k h = omega (arith, mul-le-mul-right (k * dz) h)
 
 pub *ℚ-mono-left : {x y z : ℚ} → NonNegative z → x ≤ℚ y → x *ℚ z ≤ℚ y *ℚ z
@@ -73,7 +80,7 @@ unfolding _*ℚ_
     record {
       le =
           subst
-          (λ (q : ℕ). (x .p * q + x .m * z .m) * (y .d * z .d) + (y .p * z .m + y .m * q) * (x .d * z .d) ≤ (y .p * q + y .m * z .m) * (x .d * z .d) + (x .p * z .m + x .m * q) * (y .d * z .d))
+          (λ (q : ℕ). side x y z q ≤ side y x z q)
           (e .1)
           (mono-core (x .p) (x .m) (x .d) (y .p) (y .m) (y .d) (z .m) (z .d) (e .0) (h .le));
     }
@@ -97,7 +104,8 @@ pub *ℚ-anti-right : {x y z : ℚ} → NonPositive z → x ≤ℚ y → z *ℚ 
 -- ---- strictly monotone by a positive factor, and cancelled again
 
 strict-core : (px mx dx py my dy mz dz k : ℕ) → 0 < k → 0 < dz → px * dy + my * dx < py * dx + mx * dy →
-    (px * (mz + k) + mx * mz) * (dy * dz) + (py * mz + my * (mz + k)) * (dx * dz) < (py * (mz + k) + my * mz) * (dx * dz) + (px * mz + mx * (mz + k)) * (dy * dz)
+    (px * (mz + k) + mx * mz) * (dy * dz) + (py * mz + my * (mz + k)) * (dx * dz) <
+    (py * (mz + k) + my * mz) * (dx * dz) + (px * mz + mx * (mz + k)) * (dy * dz)
 strict-core px mx dx py my dy mz dz k hk hd h = omega (arith, mul-lt-mul-of-pos-right h (mul-pos hk hd))
 
 pub *ℚ-strict-left : {x y z : ℚ} → Positive z → x <ℚ y → x *ℚ z <ℚ y *ℚ z
@@ -109,7 +117,7 @@ unfolding _*ℚ_
     record {
       lt =
           subst
-          (λ (q : ℕ). (x .p * q + x .m * z .m) * (y .d * z .d) + (y .p * z .m + y .m * q) * (x .d * z .d) < (y .p * q + y .m * z .m) * (x .d * z .d) + (x .p * z .m + x .m * q) * (y .d * z .d))
+          (λ (q : ℕ). side x y z q < side y x z q)
           (e .1)
           (strict-core (x .p) (x .m) (x .d) (y .p) (y .m) (y .d) (z .m) (z .d) (e .0) k (z .d-pos) (h .lt));
     }

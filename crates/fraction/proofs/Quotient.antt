@@ -4,9 +4,11 @@ use Prim.Native.Nat.{ℕ, zero, suc, _+_, _*_, _-_, _≤_, _<_}
 use native.Mathlib.Nat.{zero-lt-suc, sub-pos-iff-lt}
 use native.Mathlib.Omega.{arith}
 use Rattle.fraction.specs.Fraction.{ℚ, _≈_, _≤ℚ_, _<ℚ_, NonNegative, Positive, natℚ, over, recip, _+ℚ_, _-ℚ_, negℚ, _*ℚ_, _÷_}
-use Rattle.fraction.proofs.Order.{≤ℚ-refl, ≤ℚ-trans, ≈→≤, ≈→≥, ≈-refl, ≈-sym, ≈-trans, ≤ℚ-≈-trans, ≈-≤ℚ-trans, ≤ℚ-<ℚ-trans, <ℚ-≤ℚ-trans, ≤ℚ-antisym, positive→nonNegative, positive-up}
+use Rattle.fraction.proofs.Order.{≤ℚ-trans, ≈→≤, ≈→≥, ≈-sym, ≈-trans, ≤ℚ-≈-trans, ≈-≤ℚ-trans}
+use Rattle.fraction.proofs.Order.{≤ℚ-<ℚ-trans, <ℚ-≤ℚ-trans, ≤ℚ-antisym, positive-up}
 use Rattle.fraction.proofs.Integer.{natℚ-positive}
-use Rattle.fraction.proofs.Product.{*ℚ-comm, *ℚ-assoc, *ℚ-one, one-*ℚ, *ℚ-+ℚ, *ℚ-cong-left, *ℚ-cong-right, *ℚ-mono-left, *ℚ-mono-right, *ℚ-mono, *ℚ-strict-left, *ℚ-nonNegative, *ℚ-positive, *ℚ-cancel-≤-left}
+use Rattle.fraction.proofs.Product.{*ℚ-comm, *ℚ-assoc, *ℚ-one, *ℚ-cong-left, *ℚ-cong-right, *ℚ-mono-left}
+use Rattle.fraction.proofs.Product.{*ℚ-mono-right, *ℚ-strict-left, *ℚ-nonNegative, *ℚ-positive, *ℚ-cancel-≤-left}
 
 -- ---- reciprocals
 

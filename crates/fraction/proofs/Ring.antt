@@ -136,7 +136,8 @@ look z (x ∷ s) (suc i) = look z s i
 
 module _ (A : Type 0) (_~_ : A → A → Type 0) (add mul : A → A → A) (neg : A → A) (nat : ℕ → A) (lit : ℕ → ℕ → A) (L : Laws A _~_ add mul neg nat lit) where
   infix 20 _~_
-  open Laws L using (rfl, sy, tr, add-cong, mul-cong, add-comm, add-assoc, mul-comm, mul-assoc, mul-add, lit-add, lit-mul, lit-zero, add-zero, mul-zero, mul-one, neg-is, nat-is, cancel)
+  open Laws L using (rfl, sy, tr, add-cong, mul-cong, add-comm, add-assoc, mul-comm, mul-assoc, mul-add)
+  open Laws L using (lit-add, lit-mul, lit-zero, add-zero, mul-zero, mul-one, neg-is, nat-is, cancel)
 
   abbrev pub eval : List A → Expression → A
   eval s (var i) = look (lit 0 0) s i

@@ -4,7 +4,8 @@ use Prim.Native.Nat.{ℕ, _+_, _*_, _≤_, _<_}
 use native.Mathlib.Nat.{mul-le-mul-right, mul-lt-mul-of-pos-right, mul-pos}
 use native.Mathlib.Omega.{arith}
 use Rattle.fraction.specs.Fraction.{ℚ, _≈_, _≤ℚ_, _<ℚ_, NonNegative, Positive, natℚ, negℚ, _+ℚ_, _-ℚ_}
-use Rattle.fraction.proofs.Order.{≤ℚ-refl, ≤ℚ-trans, ≤ℚ-antisym, ≈→≤, ≈→≥, ≈-refl, ≈-sym, ≈-trans, <ℚ→≤ℚ, <ℚ-≤ℚ-trans, ≤ℚ-<ℚ-trans, ≤ℚ-≈-trans, ≈-≤ℚ-trans, nonNegative→≤, ≤→nonNegative, positive→<, <→positive, positive→nonNegative, positive-up}
+use Rattle.fraction.proofs.Order.{≤ℚ-trans, ≤ℚ-antisym, ≈→≤, ≈→≥, ≈-sym, ≈-trans, <ℚ-≤ℚ-trans}
+use Rattle.fraction.proofs.Order.{≤ℚ-<ℚ-trans, ≤ℚ-≈-trans, ≈-≤ℚ-trans, nonNegative→≤, positive-up}
 
 -- ---- the sum is a commutative group
 

@@ -1,5 +1,6 @@
 -- SPECIFICATION 1: rounding of quotients, the operations that round with their exact and rounded values, and what encloses a
 -- fraction.
+use mathlib.Core.Bool.{Bool, true, false}
 use mathlib.Core.List.{List, [], _∷_}
 use Prim.Native.Nat.{ℕ, suc, _+_, _*_, _-_, _/_, _<_}
 use lib.Dec.{lit<}
@@ -24,6 +25,16 @@ ceiling z d = negℤ (floor (negℤ z) d)
 -- up, of a natural (down is _/_)
 abbrev pub ceilDiv : ℕ → ℕ → ℕ
 ceilDiv a d = (a + (d - 1)) / d
+
+-- ---- by side: up for a high, down for a low
+
+abbrev pub roundℤ : Bool → ℤ → ℕ → ℤ
+roundℤ true = ceiling
+roundℤ false = floor
+
+abbrev pub roundℕ : Bool → ℕ → ℕ → ℕ
+roundℕ true = ceilDiv
+roundℕ false = _/_
 
 -- ---- the operations
 

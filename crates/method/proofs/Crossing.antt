@@ -7,9 +7,11 @@ use native.Mathlib.Nat.{le-dest}
 use native.Mathlib.Omega.{arith}
 use lib.IntN.{ℤ, pos, negsuc}
 use Rattle.fraction.specs.Fraction.{ℚ, _≈_, _≤ℚ_, _<ℚ_, NonNegative, Positive, natℚ, intℚ, negℚ, _+ℚ_, _*ℚ_, _÷_, powℚ, sumℚ}
-use Rattle.fraction.proofs.Order.{≤ℚ-trans, ≤ℚ-refl, ≤ℚ-≈-trans, ≈-≤ℚ-trans, ≈→≤, ≈→≥, ≈-refl, ≈-sym, ≈-trans, <ℚ→≤ℚ, <ℚ-≤ℚ-trans, ≤ℚ-<ℚ-trans, positive→nonNegative, nonNegative-up}
+use Rattle.fraction.proofs.Order.{≤ℚ-trans, ≤ℚ-refl, ≤ℚ-≈-trans, ≈-≤ℚ-trans, ≈→≤, ≈→≥, ≈-refl, ≈-sym, ≈-trans}
+use Rattle.fraction.proofs.Order.{<ℚ→≤ℚ, <ℚ-≤ℚ-trans, ≤ℚ-<ℚ-trans, positive→nonNegative, nonNegative-up}
 use Rattle.fraction.proofs.Sum.{+ℚ-mono, +ℚ-mono-left, +ℚ-cong, +ℚ-strict, +ℚ-strict-left, +ℚ-strict-right, +ℚ-nonNegative, +ℚ-positive, negℚ-cong}
-use Rattle.fraction.proofs.Product.{*ℚ-comm, *ℚ-assoc, *ℚ-cong, *ℚ-cong-left, *ℚ-cong-right, *ℚ-mono-left, *ℚ-mono-right, *ℚ-strict-left, *ℚ-strict-right, *ℚ-nonNegative, *ℚ-positive, *ℚ-cancel-<-left}
+use Rattle.fraction.proofs.Product.{*ℚ-comm, *ℚ-cong-left, *ℚ-mono-left, *ℚ-mono-right, *ℚ-strict-left}
+use Rattle.fraction.proofs.Product.{*ℚ-strict-right, *ℚ-nonNegative, *ℚ-positive, *ℚ-cancel-<-left}
 use Rattle.fraction.proofs.Integer.{natℚ-nonNegative, natℚ-positive, intℚ-pos, intℚ-neg}
 use Rattle.fraction.proofs.Quotient.{÷-strict-left, ÷-positive}
 use Rattle.fraction.proofs.Power.{powℚ-nonNegative, powℚ-positive, powℚ-mono, powℚ-strict, powℚ-+, sumℚ-mono, sumℚ-scale, sumℚ-nonNegative}
@@ -95,12 +97,15 @@ module _ (k : ℕ) {a t x y : ℚ} (ha : NonNegative a) (ht : Positive t) (hx : 
   u-nonNegative : NonNegative (x ÷ billion)
   u-nonNegative = positive→nonNegative u-positive
 
+  year-mono : (j : ℕ) → t *ℚ powℚ (x ÷ billion) (suc j) ≤ℚ t *ℚ powℚ (y ÷ billion) (suc j)
+  year-mono j = *ℚ-mono-right (positive→nonNegative ht) (powℚ-mono u-nonNegative (<ℚ→≤ℚ u-below) (suc j))
+
   pub crossing : (r : ℤ) → parℚ ≤ℚ swapValue r a t (suc k) x → parℚ <ℚ swapValue r a t (suc k) y
   unfolding swapValue onward
   crossing (pos n) h =
       ≤ℚ-<ℚ-trans h
       (+ℚ-strict-right
-      (*ℚ-mono-right (rate-nonNegative n) (+ℚ-mono (≤ℚ-refl a) (sumℚ-mono _ _ (suc k) (λ j l. *ℚ-mono-right (positive→nonNegative ht) (powℚ-mono u-nonNegative (<ℚ→≤ℚ u-below) (suc j))))))
+      (*ℚ-mono-right (rate-nonNegative n) (+ℚ-mono (≤ℚ-refl a) (sumℚ-mono _ _ (suc k) (λ j l. year-mono j))))
       (*ℚ-strict-right (natℚ-positive (omega arith)) (*ℚ-strict-right ht (powℚ-strict u-positive u-below k))))
   crossing (negsuc n) h =
       <ℚ-≤ℚ-trans

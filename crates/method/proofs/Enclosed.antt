@@ -22,7 +22,8 @@ pub enclosed-append : {ps qs : List Pair} {xs ys : List ℚ} → AllEnclosed ps 
 enclosed-append none k = k
 enclosed-append (more h r) k = more h (enclosed-append r k)
 
-pub enclosed-snoc : {ps : List Pair} {xs : List ℚ} {p : Pair} {x : ℚ} → AllEnclosed ps xs → Encloses (pos (p .low)) (pos (p .high)) x → AllEnclosed (ps ++ p ∷ []) (xs ++ x ∷ [])
+pub enclosed-snoc : {ps : List Pair} {xs : List ℚ} {p : Pair} {x : ℚ} → AllEnclosed ps xs → Encloses (pos (p .low)) (pos (p .high)) x →
+    AllEnclosed (ps ++ p ∷ []) (xs ++ x ∷ [])
 enclosed-snoc r h = enclosed-append r (more h none)
 
 pub enclosed-length : {ps : List Pair} {xs : List ℚ} → AllEnclosed ps xs → length ps ≡ length xs

@@ -27,9 +27,9 @@ use Rattle.method.specs.True.{billion, minusLog, convergence, Liquid, li
 use Rattle.method.specs.Enclosure.{CurveHolds, lowOf, highOf}
 use Rattle.method.proofs.Outcome.{bind-done, demand-done, done-injective}
 use Rattle.method.proofs.Enclosed.{AllEnclosed, enclosed-append, enclosed-take, enclosed-drop, enclosed-at, enclosed-length}
-use Rattle.method.proofs.QuotesBounds.{Each, Factor, YearlyFactor, each-at, bootstrap-length, bootstrap-bounded}
+use Rattle.method.proofs.QuotesBounds.{each-at, bootstrap-length, bootstrap-bounded}
 use Rattle.method.proofs.Reading.{read-passes}
-use Rattle.method.proofs.SheetBounds.{RateInRange, NumbersInRange, read-bounds}
+use Rattle.method.proofs.SheetBounds.{read-bounds}
 use Rattle.method.proofs.Liquid.{LiquidEnclosed, RatesAbove, Rising, last-year, bootstrap-encloses}
 use Rattle.method.proofs.Logarithm.{gapForward-encloses, ultimateForward-encloses}
 use Rattle.method.proofs.SeriesBounds.{gapForward-bound, ultimateForward-bound}
@@ -37,6 +37,7 @@ use Rattle.method.proofs.TableRule.{table-rule, table-length, table-bel
 use Rattle.method.proofs.Size.{Bounded, Within}
 use Rattle.method.proofs.Forward.{zeroPair, Weighs, κPairs-weigh, llfr-encloses-at, llfr-bound-at}
 use Rattle.method.proofs.Step.{extrapolate-encloses, extrapolate-length, extrapolate-highs}
+use Rattle.method.specs.Ranges.{Each, Factor, YearlyFactor, RateInRange, NumbersInRange}
 
 -- what the enclosure asks of a sheet's numbers; grounds 1 to 4 see to it
 pub record Usable (s : Numbers) : Type 0 where
@@ -110,7 +111,8 @@ module _ (n : ℕ) {ys : List Pair} {xs : List ℚ} (e : AllEnclosed ys xs) (r :
   in-range i h = rw (nth i h) (each-at (2 + i) (pair 0 0) r (omega arith))
 
   forward-at : (i : ℕ) → i < 5 →
-      Encloses (getD (map gapForward (drop 2 ys)) i zeroPair .low) (getD (map gapForward (drop 2 ys)) i zeroPair .high) (getD (map (minusLog n) (drop 2 xs)) i (natℚ 0))
+      let f = getD (map gapForward (drop 2 ys)) i zeroPair in
+      Encloses (f .low) (f .high) (getD (map (minusLog n) (drop 2 xs)) i (natℚ 0))
   forward-at i h =
       let y = getD (drop 2 ys) i (pair 0 0) in
       let k = in-range i h in
@@ -181,13 +183,18 @@ ultimateForward-ordered u h = encloses-ordered (ultimateForward-encloses 0 u h)
 
 -- ---- the curve
 
+-- the years after 20 of a sheet, from its liquid part
+abbrev laterYears : Numbers → Bootstrap → Outcome (List Pair)
+laterYears s b =
+    let f = llfr (s .volumes) (gapForwards b) in
+    extrapolate (ultimateForward (s .ultimate)) f (κPairs table) (smoothingYear + 1) (lastYear (take smoothingYear (b .factors)))
+
 -- what an accepted sheet was worked through
 record Worked (s : Numbers) (c : Curve) : Type 0 where
   b : Bootstrap
   later : List Pair
   liquid-done : bootstrap (quotesOf maturities (s .rates)) ≡ done b
-  later-done :
-      extrapolate (ultimateForward (s .ultimate)) (llfr (s .volumes) (gapForwards b)) (κPairs table) (smoothingYear + 1) (lastYear (take smoothingYear (b .factors))) ≡ done later
+  later-done : laterYears s b ≡ done later
   narrow : firstTooWide (s .limit) 1 (take smoothingYear (b .factors) ++ later) ≡ 0
   is :
       c
@@ -204,7 +211,7 @@ worked s c e =
     let boot = bind-done (bootstrap (quotesOf maturities (s .rates))) _ e in
     let b = boot .0 in
     let quoted = take smoothingYear (b .factors) in
-    let ext = bind-done (extrapolate (ultimateForward (s .ultimate)) (llfr (s .volumes) (gapForwards b)) (κPairs table) (smoothingYear + 1) (lastYear quoted)) _ (boot .2) in
+    let ext = bind-done (laterYears s b) _ (boot .2) in
     let wide = firstTooWide (s .limit) 1 (quoted ++ ext .0) in
     let ten = demand-done (eqb wide 0) (bandTooWide wide) _ (ext .2) in
     record {
@@ -224,7 +231,13 @@ module _ (s : Numbers) (u : Usable s) {c : Curve} (w : Worked s c) where
   unfolding years trueCurve
   enclosed n =
       let quoted = enclosed-take smoothingYear (quotes-enclosed s u (w .liquid-done) n .years .enclosed) in
-      let later = extrapolate-encloses n (ultimateForward (s .ultimate)) (llfr (s .volumes) (gapForwards (w .b))) (ultimate-within (s .ultimate) (u .ultimate-most)) (llfr-within s u (w .liquid-done)) (ultimateForward-encloses n (s .ultimate) (u .ultimate-most)) (llfr-enclosed s u (w .liquid-done) n) (κPairs table) 1 (smoothingYear + 1) (lastYear (take smoothingYear (w .b .factors))) (κPairs-weigh (λ i. convergence n (1 + i)) table (table-weighs n)) (last-year quoted) (w .later-done) in
+      let ultimate-small = ultimate-within (s .ultimate) (u .ultimate-most) in
+      let llfr-small = llfr-within s u (w .liquid-done) in
+      let ultimate = ultimateForward-encloses n (s .ultimate) (u .ultimate-most) in
+      let last-liquid = llfr-enclosed s u (w .liquid-done) n in
+      let weighs = κPairs-weigh (λ i. convergence n (1 + i)) table (table-weighs n) in
+      let from20 = extrapolate-encloses n _ _ ultimate-small llfr-small ultimate last-liquid (κPairs table) 1 (smoothingYear + 1) _ weighs in
+      let later = from20 (last-year quoted) (w .later-done) in
       enclosed-append quoted (rw κ-length at later)
 
   years-length : length years ≡ 150
@@ -250,8 +263,9 @@ module _ (s : Numbers) (u : Usable s) {c : Curve} (w : Worked s c) where
   highs-at-most : HighsAtMost years
   unfolding years
   highs-at-most =
-      append-at-most (take smoothingYear (w .b .factors)) (w .later) (take-at-most smoothingYear (w .b .factors) (factors-at-most (bootstrap-bounded _ (w .liquid-done) .factors)))
-      (extrapolate-highs _ _ (κPairs table) (smoothingYear + 1) _ (w .later-done))
+      let quoted = take-at-most smoothingYear (w .b .factors) (factors-at-most (bootstrap-bounded _ (w .liquid-done) .factors)) in
+      let later = extrapolate-highs _ _ (κPairs table) (smoothingYear + 1) _ (w .later-done) in
+      append-at-most (take smoothingYear (w .b .factors)) (w .later) quoted later
 
   holds : CurveHolds s c
   unfolding years
@@ -264,6 +278,7 @@ module _ (s : Numbers) (u : Usable s) {c : Curve} (w : Worked s c) where
         ordered = λ t h k. leb→le (lowOf c t) (highOf c t) (encloses-ordered (true-at 0 t h k) .le);
         within-limit = λ t h k. rw (low-at t, high-at t) (not-too-wide (s .limit) 1 years (omega arith) (w .narrow) (t - 1) (omega (arith, years-length)));
         at-most = λ t h k. rw (high-at t) (highs-at-most (t - 1));
+        true-years = λ n. sym (enclosed-length (enclosed n)) ∙ years-length;
         encloses-true = true-at;
       }
 

@@ -132,7 +132,8 @@ step-ordered f p hf hp = go (f .low) (f .high) hf
     go (negsuc a) (negsuc b) h = ordered (encloses-scaled U-positive (between hp) (between (growth-ordered (suc b) (suc a) (suc-le-suc (leb→le b a (h .le))))))
 
 -- and a year's forward, between ordered ones
-pub forward-ordered : (l f : SignedPair) (κ : Pair) → κ .low ≤ κ .high → κ .high ≤ U → l .low ≤ℤ l .high → f .low ≤ℤ f .high → forward l f κ .low ≤ℤ forward l f κ .high
+pub forward-ordered : (l f : SignedPair) (κ : Pair) → κ .low ≤ κ .high → κ .high ≤ U → l .low ≤ℤ l .high → f .low ≤ℤ f .high →
+    forward l f κ .low ≤ℤ forward l f κ .high
 forward-ordered l f κ o u hl hf = encloses-ordered (forward-encloses l f κ (betweenℤ hl) (betweenℤ hf) weighs)
   where
     weighs : Weighs κ (natℚ (κ .low) ÷ billion)

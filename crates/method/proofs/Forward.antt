@@ -7,11 +7,11 @@ use Prim.Native.Nat.{ℕ, zero, suc, _+_, _*_, _-_, _≤_, _<_, suc-le-suc}
 use native.Mathlib.Nat.{mul-pos, le-trans, zero-lt-suc, not-suc-le-zero, le-of-suc-le-suc}
 use native.Mathlib.Omega.{arith}
 use lib.Dec.{T, le→leb, nleb→lt, lit<}
-use lib.IntN.{ℤ, pos, negsuc, _*ℤ_, *ℤ-comm}
+use lib.IntN.{ℤ, pos, negsuc, _+ℤ_, _*ℤ_, *ℤ-comm, +ℤ-assoc, +ℤ-idr}
 use lib.ListN.{length, getD}
 use lib.Signed.{leZ, _≤ℤ_, ≤ℤ-refl}
 use Rattle.fraction.specs.Fraction.{ℚ, _≈_, _≤ℚ_, natℚ, recip, _+ℚ_, _-ℚ_, _*ℚ_, _÷_}
-use Rattle.fraction.specs.Rounding.{U, floor, ceiling, Encloses}
+use Rattle.fraction.specs.Rounding.{U, floor, ceiling, wholeSum, Encloses}
 use Rattle.fraction.proofs.Order.{≈-refl, ≈-sym, ≈-trans, ≤ℚ-trans}
 use Rattle.fraction.proofs.Sum.{+ℚ-cong}
 use Rattle.fraction.proofs.Product.{*ℚ-assoc, zero-*ℚ, one-*ℚ, *ℚ-cong, *ℚ-cong-left, *ℚ-cong-right}
@@ -20,7 +20,8 @@ use Rattle.fraction.proofs.Quotient.{*ℚ-recip, ÷-*ℚ, ÷-unique, ÷-cong-le
 use Rattle.fraction.proofs.Ring.{var, con, ⊖, _⊕_, _⊗_}
 use Rattle.fraction.proofs.RingFraction.{ringℚ}
 use Rattle.fraction.proofs.Rounding.{U-positive}
-use Rattle.fraction.proofs.Enclosure.{encloses-≈, encloses-+, encloses-times, encloses-÷, nat-below, nat-above, blend-low, blend-high}
+use Rattle.fraction.proofs.Enclosure.{encloses-≈, encloses-+, encloses-times, encloses-÷, Term, lows, highs}
+use Rattle.fraction.proofs.Enclosure.{values, encloses-weighted, nat-below, nat-above, blend-low, blend-high}
 use Rattle.method.specs.Units.{Pair, pair, SignedPair, signedPair}
 use Rattle.method.specs.Sheet.{total}
 use Rattle.method.specs.Extrapolation.{llfrNumerator, llfr, blend, smaller, larger, forward, κPairs}
@@ -70,14 +71,6 @@ mean-is ks fs c d s h e =
 abbrev pub zeroPair : SignedPair
 zeroPair = signedPair (pos 0) (pos 0)
 
--- a term of the numerator of SPECIFICATION 5.1
-term-encloses : (c v : ℕ) {a b : ℤ} {x : ℚ} → Encloses a b x →
-    Encloses (pos c *ℤ pos v *ℤ a) (pos c *ℤ pos v *ℤ b) (natℚ v *ℚ (natℚ c *ℚ x))
-term-encloses c v {x = x} h =
-    encloses-≈
-    (≈-trans (*ℚ-cong-left x (natℚ-* c v)) (ringℚ (natℚ c ∷ natℚ v ∷ x ∷ []) ((var 0 ⊗ var 1) ⊗ var 2) (var 1 ⊗ (var 0 ⊗ var 2)) tt))
-    (encloses-times (c * v) h)
-
 module _ (v1 v2 v3 v4 v5 : ℕ) (f1 f2 f3 f4 f5 : ℚ) where
   -- that numerator, without rounding
   unfoldable pub numerator : ℚ
@@ -88,13 +81,49 @@ module _ (v1 v2 v3 v4 v5 : ℕ) (f1 f2 f3 f4 f5 : ℚ) where
       +ℚ natℚ v4 *ℚ (natℚ 3 *ℚ (f2 +ℚ f3 +ℚ natℚ 2 *ℚ f4))
       +ℚ natℚ v5 *ℚ (natℚ 2 *ℚ (f2 +ℚ f3 +ℚ natℚ 2 *ℚ f4 +ℚ natℚ 2 *ℚ f5))
 
+  -- as a sum of products, the weights first
+  weighted-numerator :
+      natℚ (12 * v1) *ℚ f1
+      +ℚ (natℚ (12 * v2) *ℚ f2
+      +ℚ (natℚ (6 * v3) *ℚ (f2 +ℚ f3)
+      +ℚ (natℚ (3 * v4) *ℚ (f2 +ℚ f3 +ℚ natℚ 2 *ℚ f4)
+      +ℚ (natℚ (2 * v5) *ℚ (f2 +ℚ f3 +ℚ natℚ 2 *ℚ f4 +ℚ natℚ 2 *ℚ f5)
+      +ℚ natℚ 0))))
+      ≈ numerator
+  unfolding numerator
+  weighted-numerator =
+      ≈-trans
+      (+ℚ-cong (weight 12 v1 _) (+ℚ-cong (weight 12 v2 _) (+ℚ-cong (weight 6 v3 _) (+ℚ-cong (weight 3 v4 _) (+ℚ-cong (weight 2 v5 _) (≈-refl (natℚ 0)))))))
+      (ringℚ (product v1 12 f1 ∷ product v2 12 f2 ∷ product v3 6 to30 ∷ product v4 3 to40 ∷ product v5 2 to50 ∷ [])
+      (var 0 ⊕ (var 1 ⊕ (var 2 ⊕ (var 3 ⊕ (var 4 ⊕ con 0)))))
+      (var 0 ⊕ var 1 ⊕ var 2 ⊕ var 3 ⊕ var 4)
+      tt)
+    where
+      product : ℕ → ℕ → ℚ → ℚ
+      product v c x = natℚ v *ℚ (natℚ c *ℚ x)
+
+      to30 : ℚ
+      to30 = f2 +ℚ f3
+
+      to40 : ℚ
+      to40 = to30 +ℚ natℚ 2 *ℚ f4
+
+      to50 : ℚ
+      to50 = to40 +ℚ natℚ 2 *ℚ f5
+
+      weight : (c v : ℕ) (x : ℚ) → natℚ (c * v) *ℚ x ≈ natℚ v *ℚ (natℚ c *ℚ x)
+      weight c v x =
+          ≈-trans (*ℚ-cong-left x (natℚ-* c v)) (ringℚ (natℚ c ∷ natℚ v ∷ x ∷ []) ((var 0 ⊗ var 1) ⊗ var 2) (var 1 ⊗ (var 0 ⊗ var 2)) tt)
+
   -- it is twelve times the volumes' sum of products with the method paper's means over years from 20
   numerator-is : numerator ≈ natℚ 12 *ℚ yearsSum (v1 ∷ v2 ∷ v3 ∷ v4 ∷ v5 ∷ []) (marketForwards (f1 ∷ f2 ∷ f3 ∷ f4 ∷ f5 ∷ []))
   unfolding numerator marketForwards gapYearsFrom20 yearsSum yearsTotal
   numerator-is =
       ≈-trans
       (+ℚ-cong (+ℚ-cong (+ℚ-cong (+ℚ-cong (≈-refl _) (times v2 to25)) (times v3 to30)) (times v4 to40)) (times v5 to50))
-      (ringℚ (natℚ v1 ∷ natℚ v2 ∷ natℚ v3 ∷ natℚ v4 ∷ natℚ v5 ∷ f1 ∷ mean (5 ∷ []) ∷ mean (5 ∷ 5 ∷ []) ∷ mean (5 ∷ 5 ∷ 10 ∷ []) ∷ mean (5 ∷ 5 ∷ 10 ∷ 10 ∷ []) ∷ [])
+      (ringℚ
+      (natℚ v1 ∷ natℚ v2 ∷ natℚ v3 ∷ natℚ v4 ∷ natℚ v5 ∷
+      f1 ∷ mean (5 ∷ []) ∷ mean (5 ∷ 5 ∷ []) ∷ mean (5 ∷ 5 ∷ 10 ∷ []) ∷ mean (5 ∷ 5 ∷ 10 ∷ 10 ∷ []) ∷ [])
       (var 0 ⊗ (con 12 ⊗ var 5) ⊕ var 1 ⊗ (con 12 ⊗ var 6) ⊕ var 2 ⊗ (con 12 ⊗ var 7) ⊕ var 3 ⊗ (con 12 ⊗ var 8) ⊕ var 4 ⊗ (con 12 ⊗ var 9))
       (con 12 ⊗ (var 0 ⊗ var 5 ⊕ (var 1 ⊗ var 6 ⊕ (var 2 ⊗ var 7 ⊕ (var 3 ⊗ var 8 ⊕ (var 4 ⊗ var 9 ⊕ con 0))))))
       tt)
@@ -134,20 +163,40 @@ module _ (v1 v2 v3 v4 v5 : ℕ) (f1 f2 f3 f4 f5 : ℚ) where
           (con 12 ⊗ (con 5 ⊗ var 0 ⊕ (con 5 ⊗ var 1 ⊕ (con 10 ⊗ var 2 ⊕ (con 10 ⊗ var 3 ⊕ con 0)))))
           tt)
 
+-- the numerator of SPECIFICATION 5.1 as one sum of products
+numerator-sum : (v1 v2 v3 v4 v5 : ℕ) (a1 a2 a3 a4 a5 : ℤ) →
+    llfrNumerator (v1 ∷ v2 ∷ v3 ∷ v4 ∷ v5 ∷ []) (a1 ∷ a2 ∷ a3 ∷ a4 ∷ a5 ∷ []) ≡
+    wholeSum
+    (record { weight = pos (12 * v1); value = a1 }
+    ∷ record { weight = pos (12 * v2); value = a2 }
+    ∷ record { weight = pos (6 * v3); value = a2 +ℤ a3 }
+    ∷ record { weight = pos (3 * v4); value = a2 +ℤ a3 +ℤ pos 2 *ℤ a4 }
+    ∷ record { weight = pos (2 * v5); value = a2 +ℤ a3 +ℤ pos 2 *ℤ a4 +ℤ pos 2 *ℤ a5 }
+    ∷ [])
+unfolding llfrNumerator wholeSum
+numerator-sum v1 v2 v3 v4 v5 a1 a2 a3 a4 a5 = simp (+ℤ-assoc, +ℤ-idr)
+
+abbrev term : (w : ℕ) {a b : ℤ} {x : ℚ} → Encloses a b x → Term
+term w {a} {b} {x} h = record { weight = w; low = a; high = b; value = x; holds = h }
+
 pub llfr-encloses : (v1 v2 v3 v4 v5 : ℕ) {g1 g2 g3 g4 g5 : SignedPair} {f1 f2 f3 f4 f5 : ℚ} → 0 < total (v1 ∷ v2 ∷ v3 ∷ v4 ∷ v5 ∷ []) →
     Encloses (g1 .low) (g1 .high) f1 → Encloses (g2 .low) (g2 .high) f2 → Encloses (g3 .low) (g3 .high) f3 →
     Encloses (g4 .low) (g4 .high) f4 → Encloses (g5 .low) (g5 .high) f5 →
     Encloses (llfr (v1 ∷ v2 ∷ v3 ∷ v4 ∷ v5 ∷ []) (g1 ∷ g2 ∷ g3 ∷ g4 ∷ g5 ∷ []) .low) (llfr (v1 ∷ v2 ∷ v3 ∷ v4 ∷ v5 ∷ []) (g1 ∷ g2 ∷ g3 ∷ g4 ∷ g5 ∷ []) .high)
     (lastLiquidForward (v1 ∷ v2 ∷ v3 ∷ v4 ∷ v5 ∷ []) (f1 ∷ f2 ∷ f3 ∷ f4 ∷ f5 ∷ []))
-unfolding llfr llfrNumerator lastLiquidForward numerator total yearsTotal
-llfr-encloses v1 v2 v3 v4 v5 {f1 = f1} {f2} {f3} {f4} {f5} h h1 h2 h3 h4 h5 =
+unfolding llfr lastLiquidForward total yearsTotal lows highs values
+llfr-encloses v1 v2 v3 v4 v5 {g1} {g2} {g3} {g4} {g5} {f1} {f2} {f3} {f4} {f5} h h1 h2 h3 h4 h5 =
     let to30 = encloses-+ h2 h3 in
     let to40 = encloses-+ to30 (encloses-times 2 h4) in
     let to50 = encloses-+ to40 (encloses-times 2 h5) in
+    let terms = term (12 * v1) h1 ∷ term (12 * v2) h2 ∷ term (6 * v3) to30 ∷ term (3 * v4) to40 ∷ term (2 * v5) to50 ∷ [] in
+    let rounded = encloses-weighted terms (mul-pos {m = 12} (lit< tt) h) in
+    let low-sum = numerator-sum v1 v2 v3 v4 v5 (g1 .low) (g2 .low) (g3 .low) (g4 .low) (g5 .low) in
+    let high-sum = numerator-sum v1 v2 v3 v4 v5 (g1 .high) (g2 .high) (g3 .high) (g4 .high) (g5 .high) in
     encloses-≈
-    (weighted-over 12 (v1 ∷ v2 ∷ v3 ∷ v4 ∷ v5 ∷ []) (marketForwards (f1 ∷ f2 ∷ f3 ∷ f4 ∷ f5 ∷ [])) (lit< tt) h (numerator-is v1 v2 v3 v4 v5 f1 f2 f3 f4 f5))
-    (encloses-÷ (mul-pos {m = 12} (lit< tt) h)
-    (encloses-+ (encloses-+ (encloses-+ (encloses-+ (term-encloses 12 v1 h1) (term-encloses 12 v2 h2)) (term-encloses 6 v3 to30)) (term-encloses 3 v4 to40)) (term-encloses 2 v5 to50)))
+    (weighted-over 12 (v1 ∷ v2 ∷ v3 ∷ v4 ∷ v5 ∷ []) (marketForwards (f1 ∷ f2 ∷ f3 ∷ f4 ∷ f5 ∷ [])) (lit< tt) h
+    (≈-trans (weighted-numerator v1 v2 v3 v4 v5 f1 f2 f3 f4 f5) (numerator-is v1 v2 v3 v4 v5 f1 f2 f3 f4 f5)))
+    (rw (low-sum, high-sum) rounded)
 
 -- a sum of products whose weights sum to 12 × ΣV
 numerator-bound : (v1 v2 v3 v4 v5 : ℕ) {a1 a2 a3 a4 a5 : ℤ} {M : ℕ} → Bounded M a1 → Bounded M a2 → Bounded M a3 → Bounded M a4 → Bounded M a5 →
@@ -165,10 +214,9 @@ pub llfr-bound : (v1 v2 v3 v4 v5 : ℕ) {g1 g2 g3 g4 g5 : SignedPair} {M : ℕ} 
 unfolding llfr
 llfr-bound v1 v2 v3 v4 v5 h h1 h2 h3 h4 h5 =
     let d = mul-pos {m = 12} (lit< tt) h in
-    record {
-      low-within = bounded-floor d (numerator-bound v1 v2 v3 v4 v5 (h1 .low-within) (h2 .low-within) (h3 .low-within) (h4 .low-within) (h5 .low-within));
-      high-within = bounded-ceiling d (numerator-bound v1 v2 v3 v4 v5 (h1 .high-within) (h2 .high-within) (h3 .high-within) (h4 .high-within) (h5 .high-within));
-    }
+    let low = numerator-bound v1 v2 v3 v4 v5 (h1 .low-within) (h2 .low-within) (h3 .low-within) (h4 .low-within) (h5 .low-within) in
+    let high = numerator-bound v1 v2 v3 v4 v5 (h1 .high-within) (h2 .high-within) (h3 .high-within) (h4 .high-within) (h5 .high-within) in
+    record { low-within = bounded-floor d low; high-within = bounded-ceiling d high }
 
 -- the same of lists of five, entry by entry
 pub llfr-encloses-at : (vs : List ℕ) (gs : List SignedPair) (fs : List ℚ) → length vs ≡ 5 → length gs ≡ 5 → length fs ≡ 5 → 0 < total vs →

@@ -28,10 +28,7 @@ use Rattle.method.proofs.HalvingLaws.{lowX-passes, highX-passes, highX-
 use Rattle.method.proofs.Par.{parℚ}
 use Rattle.method.proofs.Swap.{not-above, not-below}
 use Rattle.method.proofs.Crossing.{crossing}
-
-pub split : {P : Type 0} (b : Bool) → (b ≡ true → P) → (b ≡ false → P) → P
-split true f g = f refl
-split false f g = g refl
+use Rattle.method.proofs.Outcome.{split}
 
 -- ---- the largest number up to a bound that passes
 
@@ -108,13 +105,17 @@ leℚ-true e = record { le = leb-true _ _ e }
 ≤ℚ-true h = le-leb _ _ (h .le)
 
 module _ (n k : ℕ) (g : Gap) (ends : PassesEnds g) (hk : g .years ≡ suc k) {a t : ℚ}
-    (ha : Encloses (pos (g .annuity .low)) (pos (g .annuity .high)) a) (ht : Encloses (pos (g .start .low)) (pos (g .start .high)) t) (h1 : 0 < g .start .low) where
+    (ha : Encloses (pos (g .annuity .low)) (pos (g .annuity .high)) a)
+    (ht : Encloses (pos (g .start .low)) (pos (g .start .high)) t)
+    (h1 : 0 < g .start .low) where
   abbrev passes : ℕ → Bool
   passes m = true.atMostPar n (g .rate) a t (g .years) m
 
   low-passes : passes (lowX g * 10 ^ n) ≡ true
   unfolding true.atMostPar
-  low-passes = ≤ℚ-true (≈-≤ℚ-trans (swapValue-cong (g .rate) a t (g .years) (multiple-whole n (lowX g))) (not-above g ha ht (lowX g) (lowX-passes g (ends .lower))))
+  low-passes =
+      let same-value = swapValue-cong (g .rate) a t (g .years) (multiple-whole n (lowX g)) in
+      ≤ℚ-true (≈-≤ℚ-trans same-value (not-above g ha ht (lowX g) (lowX-passes g (ends .lower))))
 
   -- what passes is at most the high x
   at-most-high : (m : ℕ) → passes m ≡ true → multiple n m ≤ℚ natℚ (highX g)

@@ -22,6 +22,7 @@ use Rattle.method.specs.Series.{growthSum, growth, growthLow, growthHigh
 use Rattle.method.specs.True.{billion, factorial, expSum}
 use Rattle.method.proofs.Quotients.{nat-exact, ÷-product, Below, up-below-up, down-below-up}
 use Rattle.method.proofs.Tail.{tail-≤, tail-covered}
+use Rattle.method.specs.Ranges.{growthRange}
 
 -- ---- the terms y^i / i!
 
@@ -108,10 +109,6 @@ growthSum-encloses y (suc k) f i p steps {low} {high} e =
     later j = let same : suc i + j ≡ i + suc j = omega arith in rw same (steps (suc j))
 
 -- ---- the growth encloses U × the sum of every order
-
--- where the tail past t7 is below one billionth
-abbrev pub growthRange : ℕ
-growthRange = 250_000_000
 
 range-halves : natℚ 2 *ℚ (natℚ growthRange ÷ billion) ≤ℚ natℚ 9
 unfolding computes

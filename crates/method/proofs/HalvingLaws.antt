@@ -115,8 +115,9 @@ not-both : (r : ℤ) (k : ℕ) (a t : Pair) (x y : ℕ) → InOrder (gap r k a t
 unfolding surelyNotAbove surelyNotBelow
 not-both r zero a t x y o yx above below = absurd (omega (arith, o .years))
 not-both (pos r) (suc k) a t x y o yx above below =
+    let less : y ≤ x = omega arith in
     crossing-up r _ _ _ _ _ _ (o .annuity)
-    (total-ordered down-up (o .start) (omega arith) (suc k)) (last-strict (o .start) (o .positive) yx k)
+    (total-ordered down-up (o .start) less (suc k)) (last-strict (o .start) (o .positive) yx k)
     (leb-true _ _ above) (leb-true _ _ below)
 not-both (negsuc r) (suc k) a t x y o yx above below =
     crossing-down (suc r) (y ^ suc k) (x ^ suc k) _ _ _ _ _ _ (pow-lt-pow-left yx (λ e. omega (arith, e))) (o .annuity)

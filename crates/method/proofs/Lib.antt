@@ -25,7 +25,9 @@ pub mod TrialLaws
 pub mod HalvingLaws
 pub mod QuotesLaws
 pub mod QuotesBounds
+pub mod Zips
 pub mod Enclosure
-pub mod Turns
+pub mod Slots
 pub mod Reading
 pub mod SheetBounds
+pub mod Places

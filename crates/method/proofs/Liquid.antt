@@ -1,8 +1,8 @@
 -- The liquid part: the factors of the quotes, and the yearly factors of their gaps, enclose the true ones of every order.
 -- For any list of rising maturities and any rates above -100,000.
 use mathlib.Core.Path.{_≡_, refl, ap, sym, subst, _∙_}
-use mathlib.Core.Bool.{Bool, true, false, cond}
-use mathlib.Core.List.{List, [], _∷_, _++_, map, append-assoc, append-nil}
+use mathlib.Core.Bool.{Bool, true, false, cond, _&&_}
+use mathlib.Core.List.{List, [], _∷_, _++_, map, zipWith, append-assoc, append-nil}
 use Prim.Native.Nat.{ℕ, zero, suc, _+_, _*_, _-_, _/_, _≤_, _<_}
 use native.Mathlib.Nat.{le-refl}
 use native.Mathlib.Omega.{arith}
@@ -15,18 +15,20 @@ use Rattle.fraction.specs.Fraction.{ℚ, negPart}
 use Rattle.fraction.specs.Rounding.{U, ceilDiv, Encloses}
 use Rattle.fraction.proofs.Order.{≤ℚ-refl, ≈-sym}
 use Rattle.fraction.proofs.Enclosure.{encloses-≈, encloses-ordered, nat-encloses}
-use Rattle.method.specs.Units.{Pair, pair}
+use Rattle.method.specs.Units.{Pair, pair, pairsOf}
 use Rattle.method.specs.Grounds.{Ground, Outcome, refused, done, _>>=_, demand, lowBelowOne, highAboveLimit, endFailsTest}
-use Rattle.method.specs.Sheet.{both}
-use Rattle.method.specs.Quotes.{Gap, Quote, Bootstrap, annuity, trial, parLow, parHigh, nextYear, quotedYear, insideYears, lastYear, gapAfter, gapYears, parYear, yearsTo, bootstrapFrom, quotesOf, bootstrap, lowX, highX, lowerEnd, upperEnd, highestFactor, surelyNotAbove, surelyNotBelow}
+use Rattle.method.specs.Quotes.{Gap, Bootstrap, annuity, nextYear, quotedYear, insideYears, lastYear, gapAfter, gapYears, parYear, yearsTo}
+use Rattle.method.specs.Quotes.{bootstrapFrom, quotesOf, bootstrap, lowerEnd, upperEnd, highestFactor, surelyNotAbove, surelyNotBelow}
 use Rattle.method.specs.True.{billion, onward, between, sumOf, parFactor, multiple, chosen, lastFactor, Liquid, toMaturity, liquidFrom, liquid}
 use Rattle.method.proofs.Outcome.{bind-done, done-injective, both-true}
 use Rattle.method.proofs.Enclosed.{AllEnclosed, none, more, enclosed-append, enclosed-snoc, enclosed-length, enclosed-sum}
 use Rattle.method.proofs.QuotesLaws.{next-done, gap-inverse, par-inverse}
-use Rattle.method.proofs.QuotesBounds.{Each, Factor, YearlyFactor, each-snoc, lastYear-factor, yearly-factor}
+use Rattle.method.proofs.QuotesBounds.{each-snoc, lastYear-factor, yearly-factor}
 use Rattle.method.proofs.Par.{true-par-encloses}
-use Rattle.method.proofs.Trial.{pairs, onward-zero, trial-encloses}
-use Rattle.method.proofs.Gap.{split, PassesEnds, yearly-encloses}
+use Rattle.method.proofs.Trial.{onward-zero, trial-encloses}
+use Rattle.method.proofs.Gap.{PassesEnds, yearly-encloses}
+use Rattle.method.proofs.Outcome.{split}
+use Rattle.method.specs.Ranges.{Each, Factor, YearlyFactor}
 
 -- years worked so far, beside the true ones
 pub record YearsEnclosed (ps : List Pair) (xs : List ℚ) : Type 0 where
@@ -40,7 +42,8 @@ naturals low high = pair (natAbs low) (natAbs high)
 
 natural-ends : (low high : ℤ) {x : ℚ} → leZ (pos 1) low ≡ true → leZ high (pos highestFactor) ≡ true → Encloses low high x →
     Encloses (pos (natAbs low)) (pos (natAbs high)) x × Factor (naturals low high)
-natural-ends (pos a) (pos b) e f h = (h, record { least = leb-true 1 a e; ordered = leb→le a b (encloses-ordered h .le); greatest = leb-true b highestFactor f })
+natural-ends (pos a) (pos b) e f h =
+    (h, record { least = leb-true 1 a e; ordered = leb→le a b (encloses-ordered h .le); greatest = leb-true b highestFactor f })
 natural-ends (pos a) (negsuc b) e f h = absurd (encloses-ordered h .le)
 natural-ends (negsuc a) (pos b) e f h = absurd (subst T (sym e) tt)
 natural-ends (negsuc a) (negsuc b) e f h = absurd (subst T (sym e) tt)
@@ -64,9 +67,9 @@ quoted-year r hr ps e h = next-year ps _ _ e h (true-par-encloses r (annuity ps)
 same-years : {ps qs : List Pair} (xs : List ℚ) → done ps ≡ done qs → YearsEnclosed ps xs → YearsEnclosed qs (xs ++ [])
 same-years xs e h = rw (append-nil xs) (subst (λ (ys : List Pair). YearsEnclosed ys xs) (done-injective e) h)
 
-pub inside-years : (ls hs : List ℕ) {ys : List ℚ} → AllEnclosed (pairs ls hs) ys → (ps : List Pair) (xs : List ℚ) {qs : List Pair} →
+pub inside-years : (ls hs : List ℕ) {ys : List ℚ} → AllEnclosed (pairsOf ls hs) ys → (ps : List Pair) (xs : List ℚ) {qs : List Pair} →
     insideYears ls hs ps ≡ done qs → YearsEnclosed ps xs → YearsEnclosed qs (xs ++ ys)
-unfolding insideYears pairs
+unfolding insideYears zipWith
 inside-years [] hs none ps xs e h = same-years xs e h
 inside-years (l ∷ ls) [] none ps xs e h = same-years xs e h
 inside-years (l ∷ ls) (u ∷ hs) (more {x = y} {xs = ys} k r) ps xs {qs} e h =
@@ -92,7 +95,7 @@ pub record LiquidEnclosed (b : Bootstrap) (l : Liquid) : Type 0 where
 same-bootstrap : {b c : Bootstrap} {l : Liquid} → done b ≡ done c → LiquidEnclosed b l → LiquidEnclosed c l
 same-bootstrap {l = l} e h = subst (λ (d : Bootstrap). LiquidEnclosed d l) (done-injective e) h
 
-passes-ends : (g : Gap) → both (surelyNotAbove g lowerEnd) (surelyNotBelow g upperEnd) ≡ true → PassesEnds g
+passes-ends : (g : Gap) → (surelyNotAbove g lowerEnd && surelyNotBelow g upperEnd) ≡ true → PassesEnds g
 passes-ends g e = let t = both-true (surelyNotAbove g lowerEnd) (surelyNotBelow g upperEnd) e in record { lower = t .0; upper = t .1 }
 
 between-length : (t x : ℚ) (k j : ℕ) → length (between t x j k) ≡ k
@@ -107,7 +110,8 @@ gapTrue n k r xs = multiple n (chosen n r (sumOf xs) (lastFactor xs) k)
 abbrev insideTrue : ℕ → ℕ → ℤ → List ℚ → List ℚ
 insideTrue n k r xs = xs ++ between (lastFactor xs) (gapTrue n k r xs) 1 (k - 1)
 
-pub gap-years : (n k : ℕ) → 0 < k → (r : ℤ) → negPart r < 100_000 → (b : Bootstrap) (l : Liquid) {c : Bootstrap} → gapYears k r b ≡ done c → LiquidEnclosed b l →
+pub gap-years : (n k : ℕ) → 0 < k → (r : ℤ) → negPart r < 100_000 → (b : Bootstrap) (l : Liquid) {c : Bootstrap} →
+    gapYears k r b ≡ done c → LiquidEnclosed b l →
     LiquidEnclosed c
     (record {
       factors = insideTrue n k r (l .factors) ++ parFactor r (sumOf (insideTrue n k r (l .factors))) ∷ [];
@@ -119,7 +123,8 @@ gap-years n k hk r hr b l {c} e h =
     let g = gapAfter ps k r in
     let d = gap-inverse k r b e in
     let last = last-year (h .years .enclosed) in
-    let x = yearly-encloses n (k - 1) g (passes-ends g (d .passes)) (omega arith) (enclosed-sum (h .years .enclosed)) last (lastYear-factor (h .years .in-range) .least) in
+    let sum = enclosed-sum (h .years .enclosed) in
+    let x = yearly-encloses n (k - 1) g (passes-ends g (d .passes)) (omega arith) sum last (lastYear-factor (h .years .in-range) .least) in
     let years = trial-encloses (lastFactor (l .factors)) x (k - 1) 0 (lastYear ps .low) (lastYear ps .high) (encloses-≈ (≈-sym (onward-zero _ _)) last) in
     record {
       years = quoted-year r hr (d .before) (d .last) (inside-years _ _ years ps (l .factors) (d .within) (h .years));

@@ -10,9 +10,11 @@ use lib.Dec.{T, leb, leb→le, nleb→lt, lit<}
 use lib.IntN.{pos, negℤ}
 use Rattle.fraction.specs.Fraction.{ℚ, _≈_, _≤ℚ_, NonNegative, NonPositive, Positive, natℚ, negℚ, _+ℚ_, _-ℚ_, _*ℚ_, _÷_, recip, powℚ, sumℚ}
 use Rattle.fraction.specs.Rounding.{U, ceilDiv, Encloses}
-use Rattle.fraction.proofs.Order.{≤ℚ-trans, ≤ℚ-antisym, ≤ℚ-≈-trans, ≈-≤ℚ-trans, ≈→≤, ≈→≥, ≈-refl, ≈-sym, ≈-trans, sign, nonNegative→≤, nonPositive→≤, nonNegative-up, neg-nonPositive, positive-up, positive→nonNegative}
+use Rattle.fraction.proofs.Order.{≤ℚ-trans, ≤ℚ-antisym, ≤ℚ-≈-trans, ≈-≤ℚ-trans, ≈→≤, ≈→≥, ≈-refl, ≈-sym, ≈-trans, sign}
+use Rattle.fraction.proofs.Order.{nonNegative→≤, nonPositive→≤, nonNegative-up, neg-nonPositive, positive-up, positive→nonNegative}
 use Rattle.fraction.proofs.Sum.{negℚ-reflects, +ℚ-cong, +ℚ-mono-left, +ℚ-mono-right, negℚ-cong, negℚ-anti, +ℚ-positive}
-use Rattle.fraction.proofs.Product.{*ℚ-assoc, *ℚ-one, one-*ℚ, *ℚ-cong-left, *ℚ-cong-right, *ℚ-cong, *ℚ-mono, *ℚ-mono-right, *ℚ-nonNegative, *ℚ-negℚ, negℚ-*ℚ, square-nonNegative}
+use Rattle.fraction.proofs.Product.{*ℚ-assoc, *ℚ-one, one-*ℚ, *ℚ-cong-left, *ℚ-cong-right, *ℚ-cong, *ℚ-mono}
+use Rattle.fraction.proofs.Product.{*ℚ-mono-right, *ℚ-nonNegative, *ℚ-negℚ, negℚ-*ℚ, square-nonNegative}
 use Rattle.fraction.proofs.Quotient.{*ℚ-recip, *ℚ-÷, ÷-unique, ÷-mono-left, ÷-cong-left, ÷-anti-right, ÷-nonNegative, recip-cong}
 use Rattle.fraction.proofs.Power.{sumℚ-first, sumℚ-neg, powℚ-nonNegative, sumℚ-mono, sumℚ-cong, sumℚ-scale}
 use Rattle.fraction.proofs.Integer.{natℚ-nonNegative, natℚ-positive, natℚ-mono, natℚ-reflects, natℚ-+, natℚ-*}

@@ -1,9 +1,8 @@
 -- A result that was not refused: every test on the way passed.
 use mathlib.Core.Path.{_≡_, refl, ap}
-use mathlib.Core.Bool.{Bool, true, false}
+use mathlib.Core.Bool.{Bool, true, false, _&&_}
 use Prim.Native.Nat.{ℕ}
 use native.Mathlib.Omega.{arith}
-use Rattle.method.specs.Sheet.{both}
 use Rattle.method.specs.Grounds.{Ground, Outcome, refused, done, _>>=_, demand}
 
 isDone : {A : Type 0} → Outcome A → ℕ
@@ -25,6 +24,11 @@ pub demand-done : {B : Type 0} (b : Bool) (g : Ground) (f : Unit {0} → Outcome
 demand-done true g f e = (refl, e)
 demand-done false g f e = absurd (refused-not-done e)
 
-pub both-true : (p q : Bool) → both p q ≡ true → (p ≡ true) × (q ≡ true)
+pub both-true : (p q : Bool) → (p && q) ≡ true → (p ≡ true) × (q ≡ true)
 both-true true q e = (refl, e)
 both-true false q e = (e, cc)
+
+-- by the two cases of a test
+pub split : {P : Type 0} (b : Bool) → (b ≡ true → P) → (b ≡ false → P) → P
+split true f g = f refl
+split false f g = g refl

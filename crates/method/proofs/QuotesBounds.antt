@@ -1,6 +1,6 @@
 -- Bounds on what the quotes yield: each factor and each yearly factor in its range, and low at most high; how many years and gaps there are.
 use mathlib.Core.Path.{_≡_, refl, ap, sym, subst, _∙_}
-use mathlib.Core.Bool.{Bool, true, false, cond}
+use mathlib.Core.Bool.{Bool, true, false, cond, _&&_}
 use mathlib.Core.List.{List, [], _∷_, _++_}
 use Prim.Native.Nat.{ℕ, zero, suc, _+_, _*_, _-_, _/_, _≤_, _<_}
 use native.Mathlib.Nat.{mul-le-mul, div-zero, zero-lt-suc}
@@ -12,21 +12,22 @@ use lib.Signed.{leZ, nonNeg, _≤ℤ_, ≤ℤ-refl, leZ-yes}
 use borrow.Author.Tests.{leb-true, ltb-true, eqb-true, eq-eqb, ne-eqb}
 use Rattle.fraction.specs.Fraction.{ℚ, natℚ, intℚ, _-ℚ_, _*ℚ_, _÷_}
 use Rattle.fraction.specs.Rounding.{U, floor, ceiling, ceilDiv, Encloses}
-use Rattle.fraction.proofs.Enclosure.{encloses-exact, encloses-ordered, encloses-widen, encloses--, encloses-times-nonNegative, encloses-times-nonPositive, encloses-÷}
+use Rattle.fraction.proofs.Enclosure.{encloses-exact, encloses-ordered, encloses-widen, encloses--}
+use Rattle.fraction.proofs.Enclosure.{encloses-times-nonNegative, encloses-times-nonPositive, encloses-÷}
 use Rattle.method.specs.Units.{Pair, pair, parValue}
 use Rattle.method.specs.Grounds.{done}
-use Rattle.method.specs.Sheet.{both, total, maturities}
-use Rattle.method.specs.Quotes.{Gap, annuity, trial, surelyNotAbove, surelyNotBelow, lowX, highX, lowerEnd, upperEnd, highestFactor, parNumerator, parDenominator, parLow, parHigh, nextYear, quotedYear, insideYears, Bootstrap, lastYear, gapAfter, gapYears, Quote, yearsTo, bootstrapFrom, quotesOf, bootstrap}
+use Rattle.method.specs.Sheet.{total, maturities}
+use Rattle.method.specs.Quotes.{Gap, annuity, trial, surelyNotAbove, surelyNotBelow, lowX, highX, lowerEnd, upperEnd}
+use Rattle.method.specs.Quotes.{highestFactor, parNumerator, parDenominator, parLow, parHigh, nextYear, quotedYear, insideYears}
+use Rattle.method.specs.Quotes.{Bootstrap, lastYear, gapAfter, gapYears, Quote, yearsTo, bootstrapFrom, quotesOf, bootstrap}
 use Rattle.method.proofs.TrialLaws.{Ordered, down-up}
 use Rattle.method.proofs.HalvingLaws.{InOrder, lowX-within, highX-within, lowX-≤-highX}
 use Rattle.method.proofs.Outcome.{done-injective, bind-done, both-true}
-use Rattle.method.proofs.QuotesLaws.{quoted-next, inside-none, inside-more, next-done, inside, endsPass, gap-inverse, par-inverse, years-cases, from-none, from-cons, quotes-none, quotes-more, bootstrap-from}
+use Rattle.method.proofs.QuotesLaws.{quoted-next, inside-none, inside-more, next-done, inside, endsPass, gap-inverse}
+use Rattle.method.proofs.QuotesLaws.{par-inverse, years-cases, from-none, from-cons, quotes-none, quotes-more, bootstrap-from}
+use Rattle.method.specs.Ranges.{Each, none, more, Factor, YearlyFactor, gapsWith}
 
 -- ---- a property of every pair
-
-pub data Each (P : Pair → Type 0) : List Pair → Type 0 where
-  none : Each P []
-  more : {p : Pair} {ps : List Pair} → P p → Each P ps → Each P (p ∷ ps)
 
 module _ {P : Pair → Type 0} where
   pub each-snoc : {ps : List Pair} (p : Pair) → Each P ps → P p → Each P (ps ++ p ∷ [])
@@ -39,11 +40,6 @@ module _ {P : Pair → Type 0} where
   each-at (suc k) d (more q e) h = each-at k d e (omega arith)
 
 -- ---- A, and the factor by par
-
-pub record Factor (p : Pair) : Type 0 where
-  pub least : 1 ≤ p .low
-  pub ordered : p .low ≤ p .high
-  pub greatest : p .high ≤ highestFactor
 
 pub annuity-ordered : {ps : List Pair} → Each Factor ps → annuity ps .low ≤ annuity ps .high
 unfolding annuity total
@@ -138,12 +134,6 @@ inside-length f g x y (suc k) s t ps d =
 
 -- ---- a gap
 
-pub record YearlyFactor (p : Pair) : Type 0 where
-  pub low-least : lowerEnd ≤ p .low
-  pub low-greatest : p .low ≤ upperEnd
-  pub high-least : lowerEnd ≤ p .high
-  pub high-greatest : p .high ≤ upperEnd
-
 pub yearly-factor : (g : Gap) → YearlyFactor (pair (lowX g) (highX g))
 yearly-factor g =
     let l = lowX-within g in
@@ -204,12 +194,9 @@ bootstrap-bounded qs d = from-bounded qs _ (sym (bootstrap-from qs) ∙ d) (reco
 
 -- ---- how many years and gaps: maturities that climb from n years and g gaps, by at most 10 years each, to 50 years and 7 gaps
 
-abbrev pub gapsWith : ℕ → ℕ → ℕ
-gapsWith k g = cond (eqb k 1) g (g + 1)
-
 unfoldable pub climbs : ℕ → ℕ → List ℕ → Bool
-climbs n g [] = both (eqb n 50) (eqb g 7)
-climbs n g (m ∷ ms) = both (ltb n m) (both (leb (m - n) 10) (climbs m (gapsWith (m - n) g) ms))
+climbs n g [] = eqb n 50 && eqb g 7
+climbs n g (m ∷ ms) = ltb n m && (leb (m - n) 10 && climbs m (gapsWith (m - n) g) ms)
 
 pub maturities-climb : climbs 0 0 maturities ≡ true
 unfolding climbs maturities
@@ -222,7 +209,7 @@ climbs-end n g h = let (a, b) = both-true (eqb n 50) (eqb g 7) h in (eqb-true n 
 pub climbs-more : (n g m : ℕ) (ms : List ℕ) → climbs n g (m ∷ ms) ≡ true → (n < m) × (m - n ≤ 10) × (climbs m (gapsWith (m - n) g) ms ≡ true)
 unfolding climbs
 climbs-more n g m ms h =
-    let (a, rest) = both-true (ltb n m) (both (leb (m - n) 10) (climbs m (gapsWith (m - n) g) ms)) h in
+    let (a, rest) = both-true (ltb n m) (leb (m - n) 10 && climbs m (gapsWith (m - n) g) ms) h in
     let (b, c) = both-true (leb (m - n) 10) (climbs m (gapsWith (m - n) g) ms) rest in
     (ltb-true n m a, leb-true (m - n) 10 b, c)
 
@@ -259,7 +246,8 @@ from-length [] rs b same climb d =
 from-length (m ∷ ms) [] b same climb d = absurd (omega arith)
 from-length (m ∷ ms) (r ∷ rs) b same climb d =
     let q : Quote = record { maturity = m; rate = r } in
-    let (c, first, rest) = bind-done (yearsTo q b) (bootstrapFrom (quotesOf ms rs)) (sym (from-cons q (quotesOf ms rs) b) ∙ (rw (quotes-more m ms r rs) at d)) in
+    let steps = sym (from-cons q (quotesOf ms rs) b) ∙ (rw (quotes-more m ms r rs) at d) in
+    let (c, first, rest) = bind-done (yearsTo q b) (bootstrapFrom (quotesOf ms rs)) steps in
     let (rises, short, climbs) = climbs-more _ _ m ms climb in
     let (years, gaps) = years-length q b rises first in
     from-length ms rs c (omega arith) (rw (years, gaps) climbs) rest

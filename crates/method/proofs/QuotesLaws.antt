@@ -1,6 +1,6 @@
 -- The factors from the quotes, case by case: each case of a definition as an equation.
 use mathlib.Core.Path.{_≡_, refl, ap, sym, _∙_}
-use mathlib.Core.Bool.{Bool, true, false}
+use mathlib.Core.Bool.{Bool, true, false, _&&_}
 use mathlib.Core.List.{List, [], _∷_, _++_, map}
 use Prim.Native.Nat.{ℕ, suc, _+_, _*_, _-_, _/_}
 use native.Mathlib.Omega.{arith}
@@ -12,8 +12,10 @@ use borrow.Author.Tests.{eq-eqb, ne-eqb, eqb-true, eqb-false}
 use Rattle.fraction.specs.Rounding.{U, ceilDiv}
 use Rattle.method.specs.Units.{Pair, pair}
 use Rattle.method.specs.Grounds.{Ground, lowBelowOne, highAboveLimit, endFailsTest, Outcome, refused, done, _>>=_, demand}
-use Rattle.method.specs.Sheet.{both, total}
-use Rattle.method.specs.Quotes.{annuity, trial, surelyNotAbove, surelyNotBelow, lowX, highX, lowerEnd, upperEnd, highestFactor, parLow, parHigh, nextYear, quotedYear, insideYears, Bootstrap, lastYear, gapAfter, gapYears, Quote, parYear, yearsTo, bootstrapFrom, quotesOf, bootstrap}
+use Rattle.method.specs.Sheet.{total}
+use Rattle.method.specs.Quotes.{annuity, trial, surelyNotAbove, surelyNotBelow, lowX, highX, lowerEnd, upperEnd}
+use Rattle.method.specs.Quotes.{highestFactor, parLow, parHigh, nextYear, quotedYear, insideYears, Bootstrap, lastYear}
+use Rattle.method.specs.Quotes.{gapAfter, gapYears, Quote, parYear, yearsTo, bootstrapFrom, quotesOf, bootstrap}
 use Rattle.method.proofs.Outcome.{done-injective, bind-done, demand-done}
 
 -- ---- a year more: A and the last year
@@ -33,7 +35,10 @@ annuity-none = refl
 
 pub annuity-more : (ps : List Pair) (p : Pair) → annuity (ps ++ p ∷ []) ≡ pair (annuity ps .low + p .low) (annuity ps .high + p .high)
 unfolding annuity
-annuity-more ps p = rw (map-snoc (λ p. p .low) ps p, map-snoc (λ p. p .high) ps p, total-snoc (map (λ p. p .low) ps) (p .low), total-snoc (map (λ p. p .high) ps) (p .high))
+annuity-more ps p =
+    let low-sum = total-snoc (map (λ p. p .low) ps) (p .low) in
+    let high-sum = total-snoc (map (λ p. p .high) ps) (p .high) in
+    rw (map-snoc (λ p. p .low) ps p, map-snoc (λ p. p .high) ps p, low-sum, high-sum)
 
 pub lastYear-none : lastYear [] ≡ pair U U
 unfolding lastYear
@@ -89,7 +94,7 @@ inside k r ps =
     insideYears (trial _/_ (t .low) (lowX g) (k - 1)) (trial ceilDiv (t .high) (highX g) (k - 1)) ps
 
 abbrev pub endsPass : ℕ → ℤ → List Pair → Bool
-endsPass k r ps = let g = gapAfter ps k r in both (surelyNotAbove g lowerEnd) (surelyNotBelow g upperEnd)
+endsPass k r ps = let g = gapAfter ps k r in surelyNotAbove g lowerEnd && surelyNotBelow g upperEnd
 
 module _ (k : ℕ) (r : ℤ) (b : Bootstrap) where
   pub gap-fails : endsPass k r (b .factors) ≡ false → gapYears k r b ≡ refused (endFailsTest (length (b .factors) + k))
@@ -99,7 +104,8 @@ module _ (k : ℕ) (r : ℤ) (b : Bootstrap) where
   pub gap-passes : endsPass k r (b .factors) ≡ true →
       let g = gapAfter (b .factors) k r in
       gapYears k r b ≡
-      ((inside k r (b .factors) >>= quotedYear r) >>= λ factors. done (record { factors = factors; yearlyFactors = b .yearlyFactors ++ pair (lowX g) (highX g) ∷ [] }))
+      ((inside k r (b .factors) >>= quotedYear r) >>= λ factors.
+      done (record { factors = factors; yearlyFactors = b .yearlyFactors ++ pair (lowX g) (highX g) ∷ [] }))
   unfolding gapYears
   gap-passes e = rw e (sym (bind-assoc (inside k r (b .factors)) (quotedYear r) _))
 
@@ -182,7 +188,9 @@ gap-inverse k r b {c} e =
     ps = b .factors
 
     finish : List Pair → Outcome Bootstrap
-    finish factors = done (record { factors = factors; yearlyFactors = b .yearlyFactors ++ pair (lowX (gapAfter (b .factors) k r)) (highX (gapAfter (b .factors) k r)) ∷ [] })
+    finish factors =
+        let g = gapAfter ps k r in
+        done (record { factors = factors; yearlyFactors = b .yearlyFactors ++ pair (lowX g) (highX g) ∷ [] })
 
 pub par-inverse : (r : ℤ) (b : Bootstrap) {c : Bootstrap} → parYear r b ≡ done c →
     (quotedYear r (b .factors) ≡ done (c .factors)) × (c .yearlyFactors ≡ b .yearlyFactors)

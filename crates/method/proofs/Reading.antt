@@ -8,15 +8,15 @@ use lib.Dec.{eqb, ltb}
 use lib.ListN.{length}
 use borrow.Author.Tests.{eq-eqb, ne-eqb, eqb-true, ltb-true}
 use Rattle.method.specs.Grounds.{Ground, wrongLength, wrongRecord, outOfRange, noVolume, Outcome, refused, done, _>>=_, demand}
-use Rattle.method.specs.Sheet.{turns, rightRecord, inRange, firstFailure, total, Numbers, numbersOf, readSheet}
+use Rattle.method.specs.Sheet.{slots, rightRecord, inRange, firstFailure, total, Numbers, numbersOf, readSheet}
 use Rattle.method.proofs.Outcome.{demand-done}
-use Rattle.method.proofs.Turns.{allNumbers}
+use Rattle.method.specs.Sheet.{allNumbers}
 
 abbrev pub firstWrong : List ℕ → ℕ
-firstWrong s = firstFailure (rightRecord s) 1 turns
+firstWrong s = firstFailure (rightRecord s) 1 slots
 
 abbrev pub firstOutside : List ℕ → ℕ
-firstOutside s = firstFailure (inRange s) 1 turns
+firstOutside s = firstFailure (inRange s) 1 slots
 
 module _ (s : List ℕ) where
   pub read-wrong-length : (length s ≡ 109 → ⊥) → readSheet s ≡ refused wrongLength
@@ -31,11 +31,13 @@ module _ (s : List ℕ) where
   unfolding readSheet
   read-out-of-range l r n = rw (eq-eqb (length s) 109 l, eq-eqb (firstWrong s) 0 r, ne-eqb (firstOutside s) 0 n)
 
-  pub read-no-volume : length s ≡ 109 → firstWrong s ≡ 0 → firstOutside s ≡ 0 → ltb 0 (total (numbersOf (allNumbers s) .volumes)) ≡ false → readSheet s ≡ refused noVolume
+  pub read-no-volume : length s ≡ 109 → firstWrong s ≡ 0 → firstOutside s ≡ 0 →
+      ltb 0 (total (numbersOf (allNumbers s) .volumes)) ≡ false → readSheet s ≡ refused noVolume
   unfolding readSheet
   read-no-volume l r i v = rw (eq-eqb (length s) 109 l, eq-eqb (firstWrong s) 0 r, eq-eqb (firstOutside s) 0 i, v)
 
-  pub read-numbers : length s ≡ 109 → firstWrong s ≡ 0 → firstOutside s ≡ 0 → ltb 0 (total (numbersOf (allNumbers s) .volumes)) ≡ true → readSheet s ≡ done (numbersOf (allNumbers s))
+  pub read-numbers : length s ≡ 109 → firstWrong s ≡ 0 → firstOutside s ≡ 0 →
+      ltb 0 (total (numbersOf (allNumbers s) .volumes)) ≡ true → readSheet s ≡ done (numbersOf (allNumbers s))
   unfolding readSheet
   read-numbers l r i v = rw (eq-eqb (length s) 109 l, eq-eqb (firstWrong s) 0 r, eq-eqb (firstOutside s) 0 i, v)
 

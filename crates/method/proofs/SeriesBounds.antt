@@ -11,11 +11,8 @@ use Rattle.method.specs.Units.{Pair, SignedPair, signedPair}
 use Rattle.method.specs.Quotes.{lowerEnd, upperEnd}
 use Rattle.method.specs.Series.{logarithmSum, logarithm, G, gapForward, ultimateForward}
 use Rattle.method.proofs.Quotients.{Below, down-below-up, up-below-up, ceilDiv-≤}
-use Rattle.method.proofs.Growth.{growthRange}
 use Rattle.method.proofs.Logarithm.{distance, logarithmLow, logarithmHigh, G-cases}
-
-abbrev pub forwardBound : ℕ
-forwardBound = 224_000_000
+use Rattle.method.specs.Ranges.{growthRange, forwardBound}
 
 -- ---- the steps, rounded either way
 

@@ -1,6 +1,6 @@
 -- The numbers of a sheet that is read are in their ranges.
 use mathlib.Core.Path.{_≡_, refl, ap, subst}
-use mathlib.Core.Bool.{Bool, true, false}
+use mathlib.Core.Bool.{Bool, true, false, _&&_}
 use mathlib.Core.List.{List, [], _∷_, map}
 use Prim.Native.Nat.{ℕ, zero, suc, _+_, _*_, _≤_, _<_, zero-le, suc-le-suc}
 use native.Mathlib.Omega.{arith}
@@ -11,38 +11,22 @@ use lib.Signed.{mag, leZ}
 use borrow.Author.Tests.{leb-true}
 use Rattle.fraction.specs.Fraction.{posPart, negPart}
 use Rattle.method.specs.Grounds.{done}
-use Rattle.method.specs.Sheet.{Turn, turns, both, inRange, total, Numbers, numbersOf, readSheet}
+use Rattle.method.specs.Sheet.{Slot, slots, inRange, total, Numbers, numbersOf, readSheet}
 use Rattle.method.proofs.Outcome.{both-true}
-use Rattle.method.proofs.Turns.{turnAt, turns-length, month-turn, rate-turn, volume-turn, ultimate-turn, limit-turn, none-fails, allNumbers, number-at, rates-length, rate-at, volumes-length, volume-at}
+use Rattle.method.proofs.Slots.{slots-length, month-slot, rate-slot, volume-slot, ultimate-slot, limit-slot}
+use Rattle.method.proofs.Slots.{none-fails, number-at, rates-length, rate-at, volumes-length, volume-at}
 use Rattle.method.proofs.Reading.{firstOutside, read-passes}
-
--- -2,000 to 12,000
-pub record RateInRange (z : ℤ) : Type 0 where
-  pub positive : posPart z ≤ 12_000
-  pub negative : negPart z ≤ 2_000
-  pub small : mag z ≤ 12_000
-
--- past the end of a list `getD` gives 0, which is in range too
-pub record NumbersInRange (n : Numbers) : Type 0 where
-  pub month-most : n .month ≤ 2_399
-  pub rate-count : length (n .rates) ≡ 17
-  pub rate-range : (i : ℕ) → RateInRange (getD (n .rates) i (pos 0))
-  pub volume-count : length (n .volumes) ≡ 5
-  pub volume-most : (i : ℕ) → getD (n .volumes) i 0 ≤ 1_000_000
-  pub total-least : 0 < total (n .volumes)
-  pub total-most : total (n .volumes) ≤ 5_000_000
-  pub ultimate-most : n .ultimate ≤ 10_000
-  pub limit-least : 1 ≤ n .limit
-  pub limit-most : n .limit ≤ 100_000
+use Rattle.method.specs.Sheet.{slotAt, allNumbers}
+use Rattle.method.specs.Ranges.{RateInRange, NumbersInRange}
 
 -- ---- one number
 
-natural-range : (low n high : ℕ) → both (leb low n) (leb n high) ≡ true → (low ≤ n) × (n ≤ high)
+natural-range : (low n high : ℕ) → (leb low n && leb n high) ≡ true → (low ≤ n) × (n ≤ high)
 natural-range low n high e =
     let t = both-true (leb low n) (leb n high) e in
     (leb-true _ _ (t .0), leb-true _ _ (t .1))
 
-integer-range : (z : ℤ) → both (leZ (negsuc 1_999) z) (leZ z (pos 12_000)) ≡ true → RateInRange z
+integer-range : (z : ℤ) → (leZ (negsuc 1_999) z && leZ z (pos 12_000)) ≡ true → RateInRange z
 integer-range (pos n) e = let h = leb-true n 12_000 e in omega arith
 integer-range (negsuc n) e = let h = leb-true n 1_999 (both-true (leb n 1_999) true e .0) in omega arith
 
@@ -61,17 +45,17 @@ total-at-most b (x ∷ l) f = omega (arith, f 0, total-at-most b l (λ i. f (suc
 -- ---- all numbers
 
 module _ (s : List ℕ) (inside : firstOutside s ≡ 0) where
-  in-range : (i : ℕ) (t : Turn) → i < 25 → turnAt i ≡ t → inRange s t ≡ true
-  in-range i t h e = rw (← e) (none-fails (inRange s) 0 turns inside i (rw turns-length h))
+  in-range : (i : ℕ) (t : Slot) → i < 25 → slotAt i ≡ t → inRange s t ≡ true
+  in-range i t h e = rw (← e) (none-fails (inRange s) 0 slots inside i (rw slots-length h))
 
   rates-in-range : (i : ℕ) → i < 17 → RateInRange (getD (take 17 (drop 1 (allNumbers s))) i (pos 0))
   rates-in-range i h =
-      let e = rate-turn i h in
+      let e = rate-slot i h in
       rw (rate-at s i _ h e) (integer-range _ (in-range (1 + i) _ (omega arith) e))
 
   volumes-in-range : (i : ℕ) → i < 5 → getD (map natAbs (take 5 (drop 18 (allNumbers s)))) i 0 ≤ 1_000_000
   volumes-in-range i h =
-      let e = volume-turn i h in
+      let e = volume-slot i h in
       rw (volume-at s i _ h e) (natural-range 0 _ 1_000_000 (in-range (18 + i) _ (omega arith) e) .1)
 
   numbers-in-range : 0 < total (numbersOf (allNumbers s) .volumes) → NumbersInRange (numbersOf (allNumbers s))
@@ -80,16 +64,16 @@ module _ (s : List ℕ) (inside : firstOutside s ≡ 0) where
       let volume-most : (i : ℕ) → getD (n .volumes) i 0 ≤ 1_000_000 =
       at-every (λ v. v ≤ 1_000_000) (n .volumes) 0 zero-le (λ i h. volumes-in-range i (rw (volumes-length s) at h)) in
       record {
-        month-most = rw (number-at s 0 _ (omega arith) month-turn) (natural-range 0 _ 2_399 (in-range 0 _ (omega arith) month-turn) .1);
+        month-most = rw (number-at s 0 _ (omega arith) month-slot) (natural-range 0 _ 2_399 (in-range 0 _ (omega arith) month-slot) .1);
         rate-count = rates-length s;
         rate-range = at-every RateInRange (n .rates) (pos 0) (omega arith) (λ i h. rates-in-range i (rw (rates-length s) at h));
         volume-count = volumes-length s;
         volume-most = volume-most;
         total-least = traded;
         total-most = omega (arith, total-at-most 1_000_000 (n .volumes) volume-most, ap (λ (k : ℕ). k * 1_000_000) (volumes-length s));
-        ultimate-most = rw (number-at s 23 _ (omega arith) ultimate-turn) (natural-range 0 _ 10_000 (in-range 23 _ (omega arith) ultimate-turn) .1);
-        limit-least = rw (number-at s 24 _ (omega arith) limit-turn) (natural-range 1 _ 100_000 (in-range 24 _ (omega arith) limit-turn) .0);
-        limit-most = rw (number-at s 24 _ (omega arith) limit-turn) (natural-range 1 _ 100_000 (in-range 24 _ (omega arith) limit-turn) .1);
+        ultimate-most = rw (number-at s 23 _ (omega arith) ultimate-slot) (natural-range 0 _ 10_000 (in-range 23 _ (omega arith) ultimate-slot) .1);
+        limit-least = rw (number-at s 24 _ (omega arith) limit-slot) (natural-range 1 _ 100_000 (in-range 24 _ (omega arith) limit-slot) .0);
+        limit-most = rw (number-at s 24 _ (omega arith) limit-slot) (natural-range 1 _ 100_000 (in-range 24 _ (omega arith) limit-slot) .1);
       }
 
 pub read-bounds : (s : List ℕ) (n : Numbers) → readSheet s ≡ done n → NumbersInRange n

@@ -31,7 +31,7 @@ size-+ (pos a) (negsuc b) = size-cond (ltb a (suc b)) _ _ _ (omega arith) (omega
 size-+ (negsuc a) (pos b) = size-cond (ltb b (suc a)) _ _ _ (omega arith) (omega arith)
 size-+ (negsuc a) (negsuc b) = omega arith
 
-size-neg : (a : ℤ) → natAbs (negℤ a) ≡ natAbs a
+pub size-neg : (a : ℤ) → natAbs (negℤ a) ≡ natAbs a
 size-neg (pos zero) = refl
 size-neg (pos (suc n)) = refl
 size-neg (negsuc n) = refl

@@ -13,7 +13,8 @@ use lib.IntN.{ℤ, pos, negsuc, natAbs, negℤ}
 use lib.ListN.{length, getD}
 use Rattle.fraction.specs.Fraction.{ℚ, _≈_, _≤ℚ_, _<ℚ_, NonNegative, Positive, leℚ, natℚ, intℚ, negℚ, recip, _*ℚ_, _÷_, powℚ, sumℚ}
 use Rattle.fraction.specs.Rounding.{ceilDiv, Encloses}
-use Rattle.fraction.proofs.Order.{≤ℚ-refl, ≤ℚ-trans, ≤ℚ-total, ≤ℚ-antisym, ≈→≤, ≈→≥, ≈-sym, ≈-trans, ≡→≈, ≈-≤ℚ-trans, <ℚ→≤ℚ, <ℚ-not-≤ℚ, nonNegative→≤, ≤→nonNegative, ≤→nonPositive, neg-nonPositive, positive-up}
+use Rattle.fraction.proofs.Order.{≤ℚ-refl, ≤ℚ-trans, ≤ℚ-total, ≤ℚ-antisym, ≈→≤, ≈→≥, ≈-sym, ≈-trans, ≡→≈, ≈-≤ℚ-trans}
+use Rattle.fraction.proofs.Order.{<ℚ→≤ℚ, <ℚ-not-≤ℚ, nonNegative→≤, ≤→nonNegative, ≤→nonPositive, neg-nonPositive}
 use Rattle.fraction.proofs.Decide.{leℚ→≤, ≤→leℚ}
 use Rattle.fraction.proofs.Sum.{+ℚ-cong, +ℚ-zero, zero-+ℚ, negℚ-anti, negℚ-cong, negℚ-negℚ}
 use Rattle.fraction.proofs.Product.{*ℚ-cong-left, *ℚ-cong-right, *ℚ-one, one-*ℚ, *ℚ-zero, zero-*ℚ, negℚ-*ℚ, *ℚ-mono-right, *ℚ-positive}
@@ -185,7 +186,8 @@ no-years : (l f : SignedPair) (year : ℕ) (p : Pair) {qs : List Pair} → extra
 unfolding extrapolate
 no-years l f year p e = done-injective e
 
-pub extrapolate-length : (l f : SignedPair) (κs : List Pair) (year : ℕ) (p : Pair) {qs : List Pair} → extrapolate l f κs year p ≡ done qs → length qs ≡ length κs
+pub extrapolate-length : (l f : SignedPair) (κs : List Pair) (year : ℕ) (p : Pair) {qs : List Pair} → extrapolate l f κs year p ≡ done qs →
+    length qs ≡ length κs
 extrapolate-length l f [] year p e = rw (← no-years l f year p e)
 extrapolate-length l f (κ ∷ κs) year p e =
     let ys = years l f κ κs year p e in
@@ -213,7 +215,11 @@ extrapolate-encloses n l f bl bf hl hf [] h year p w hp e = rw (← no-years l f
 extrapolate-encloses n l f bl bf hl hf (κ ∷ κs) h year p w hp e =
     let ys = years l f κ κs year p e in
     let weighs : Weighs κ (convergence n h) = rw add-zero at (w 0 (zero-lt-suc _)) in
-    let next = step-encloses n (forward l f κ) p (forward-bound l f κ (weight-ordered weighs) (weighs .at-most-U) bl bf) (forward-encloses l f κ hl hf weighs) hp in
+    let bound = forward-bound l f κ (weight-ordered weighs) (weighs .at-most-U) bl bf in
+    let next = step-encloses n (forward l f κ) p bound (forward-encloses l f κ hl hf weighs) hp in
     rw (← ys .is)
     (more next
-    (extrapolate-encloses n l f bl bf hl hf κs (suc h) (year + 1) (step (forward l f κ) p) (λ i k. rw (suc-add h i, ← add-suc h i) (w (suc i) (suc-le-suc k))) next (ys .rest)))
+    (extrapolate-encloses n l f bl bf hl hf κs (suc h) (year + 1) (step (forward l f κ) p)
+    (λ i k. rw (suc-add h i, ← add-suc h i) (w (suc i) (suc-le-suc k)))
+    next
+    (ys .rest)))

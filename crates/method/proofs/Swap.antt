@@ -22,7 +22,8 @@ use Rattle.method.specs.Quotes.{Gap, trial, lastOf, lowTrial, highTrial,
 use Rattle.method.specs.True.{onward, swapValue}
 use Rattle.method.proofs.Enclosed.{AllEnclosed, enclosed-sum}
 use Rattle.method.proofs.Par.{parℚ, parValue-exact, rate-nonNegative, rate-nonPositive}
-use Rattle.method.proofs.Trial.{pairs, onward-zero, trial-encloses, last-encloses, between-sum}
+use Rattle.method.proofs.Zips.{zip-left, zip-right}
+use Rattle.method.proofs.Trial.{onward-zero, trial-encloses, last-encloses, between-sum}
 
 -- ---- the comparison with par, for an annuity s and a last factor t bounded on the side that the rate's sign asks
 
@@ -68,19 +69,6 @@ unfolding trial
 trial-length round zero t x = refl
 trial-length round (suc k) t x = ap suc (trial-length round k (round (t * x) U) x)
 
-pub pairs-lows : (ls hs : List ℕ) → length ls ≡ length hs → map (λ p. p .low) (pairs ls hs) ≡ ls
-unfolding pairs
-pairs-lows [] hs e = refl
-pairs-lows (l ∷ ls) [] e = absurd (omega arith)
-pairs-lows (l ∷ ls) (h ∷ hs) e = ap (_∷_ l) (pairs-lows ls hs (suc-inj e))
-
-pub pairs-highs : (ls hs : List ℕ) → length ls ≡ length hs → map (λ p. p .high) (pairs ls hs) ≡ hs
-unfolding pairs
-pairs-highs [] [] e = refl
-pairs-highs [] (h ∷ hs) e = absurd (omega arith)
-pairs-highs (l ∷ ls) [] e = absurd (omega arith)
-pairs-highs (l ∷ ls) (h ∷ hs) e = ap (_∷_ h) (pairs-highs ls hs (suc-inj e))
-
 -- ---- the tests of a gap whose annuity and start enclose exact ones
 
 module _ (g : Gap) {a t : ℚ} (ha : Encloses (pos (g .annuity .low)) (pos (g .annuity .high)) a)
@@ -96,7 +84,11 @@ module _ (g : Gap) {a t : ℚ} (ha : Encloses (pos (g .annuity .low)) (pos (g .a
 
   sum-encloses : Encloses (pos (g .annuity .low + total (lowTrial g x))) (pos (g .annuity .high + total (highTrial g x)))
       (a +ℚ sumℚ (λ j. onward t (natℚ x) (suc j)) (g .years))
-  sum-encloses = encloses-+ ha (encloses-≈ (between-sum t (natℚ x) (g .years)) (rw (pairs-lows _ _ same-length, pairs-highs _ _ same-length) at (enclosed-sum (trial-encloses t exact-x (g .years) 0 (g .start .low) (g .start .high) start-encloses))))
+  sum-encloses =
+      let years = trial-encloses t exact-x (g .years) 0 (g .start .low) (g .start .high) start-encloses in
+      let lows = zip-left pair (λ p. p .low) (λ a b. refl) (lowTrial g x) (highTrial g x) same-length in
+      let highs = zip-right pair (λ p. p .high) (λ a b. refl) (lowTrial g x) (highTrial g x) same-length in
+      encloses-+ ha (encloses-≈ (between-sum t (natℚ x) (g .years)) (rw (lows, highs) at (enclosed-sum years)))
 
   last-of : Encloses (pos (lastOf (g .start .low) (lowTrial g x))) (pos (lastOf (g .start .high) (highTrial g x))) (onward t (natℚ x) (g .years))
   last-of = rw (zero-add (g .years)) at (last-encloses t exact-x (g .years) 0 (g .start .low) (g .start .high) start-encloses)

@@ -1,5 +1,5 @@
 -- The rule of the table K, at every order: K(h) is the whole part of U × k(h). One computed test goes over all entries; the
--- test and the lemma that turns it into the rule hold for any list and any ends of q.
+-- test and the lemma that slots it into the rule hold for any list and any ends of q.
 use mathlib.Core.Path.{_≡_, refl, ap}
 use mathlib.Core.Bool.{Bool, true, _&&_, and-eq-true-iff}
 use mathlib.Core.List.{List, [], _∷_}
@@ -12,7 +12,8 @@ use lib.ListN.{length, getD, List·getD-eq-default}
 use borrow.Author.Tests.{leb-true, ltb-true}
 use Rattle.fraction.specs.Fraction.{ℚ, _≈_, _≤ℚ_, _<ℚ_, NonNegative, Positive, natℚ, negℚ, _+ℚ_, _-ℚ_, _*ℚ_, _÷_, recip, powℚ, sumℚ}
 use Rattle.fraction.specs.Rounding.{U}
-use Rattle.fraction.proofs.Order.{≤ℚ-trans, ≤ℚ-≈-trans, ≈-≤ℚ-trans, ≈→≤, ≈→≥, ≈-refl, ≈-sym, ≈-trans, <ℚ-≤ℚ-trans, ≤ℚ-<ℚ-trans, <ℚ-not-≤ℚ, not-≤ℚ→<ℚ, nonNegative-up, positive→nonNegative, positive-up}
+use Rattle.fraction.proofs.Order.{≤ℚ-trans, ≤ℚ-≈-trans, ≈-≤ℚ-trans, ≈→≤, ≈→≥, ≈-sym, ≈-trans, <ℚ-≤ℚ-trans}
+use Rattle.fraction.proofs.Order.{≤ℚ-<ℚ-trans, nonNegative-up, positive→nonNegative, positive-up}
 use Rattle.fraction.proofs.Sum.{+ℚ-mono-right, negℚ-anti}
 use Rattle.fraction.proofs.Product.{*ℚ-cong-left, *ℚ-mono, *ℚ-mono-left, *ℚ-mono-right, *ℚ-cancel-≤-left, *ℚ-cancel-<-left}
 use Rattle.fraction.proofs.Quotient.{recip-anti, ÷-nonNegative}

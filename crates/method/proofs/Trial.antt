@@ -1,6 +1,6 @@
 -- A gap's trial: T1 to Tk, their sum and the last enclose the exact ones, for any length and any enclosed start and yearly factor.
 use mathlib.Core.Path.{_≡_, refl, ap, sym}
-use mathlib.Core.List.{List, [], _∷_, _++_, map}
+use mathlib.Core.List.{List, [], _∷_, _++_, map, zipWith}
 use Prim.Native.Nat.{ℕ, zero, suc, _+_, _*_, _/_, _≤_, _<_}
 use native.Mathlib.Nat.{add-zero}
 use native.Mathlib.Omega.{arith}
@@ -13,16 +13,10 @@ use Rattle.fraction.proofs.Sum.{+ℚ-cong, +ℚ-assoc, +ℚ-comm, +ℚ-zero, ze
 use Rattle.fraction.proofs.Product.{*ℚ-assoc, *ℚ-one, *ℚ-cong-right}
 use Rattle.fraction.proofs.Rounding.{U-positive}
 use Rattle.fraction.proofs.Enclosure.{encloses-≈, encloses-scaled}
-use Rattle.method.specs.Units.{Pair, pair}
+use Rattle.method.specs.Units.{Pair, pair, pairsOf}
 use Rattle.method.specs.Quotes.{trial, lastOf}
 use Rattle.method.specs.True.{billion, onward, between, sumOf}
 use Rattle.method.proofs.Enclosed.{AllEnclosed, none, more}
-
--- lows and highs side by side
-unfoldable pub pairs : List ℕ → List ℕ → List Pair
-pairs [] highs = []
-pairs (l ∷ lows) [] = []
-pairs (l ∷ lows) (h ∷ highs) = pair l h ∷ pairs lows highs
 
 pub onward-zero : (t x : ℚ) → onward t x 0 ≈ t
 unfolding onward powℚ
@@ -34,12 +28,16 @@ onward-suc t x j =
     ≈-trans (*ℚ-assoc (t *ℚ powℚ (x ÷ billion) j) x (recip billion)) (*ℚ-assoc t (powℚ (x ÷ billion) j) (x ÷ billion))
 
 module _ (t : ℚ) {xl xh : ℕ} {x : ℚ} (hx : Encloses (pos xl) (pos xh) x) where
+  next-encloses : (j tl th : ℕ) → Encloses (pos tl) (pos th) (onward t x j) →
+      Encloses (pos (tl * xl / U)) (pos (ceilDiv (th * xh) U)) (onward t x (suc j))
+  next-encloses j tl th h = encloses-≈ (onward-suc t x j) (encloses-scaled U-positive h hx)
+
   pub trial-encloses : (k j tl th : ℕ) → Encloses (pos tl) (pos th) (onward t x j) →
-      AllEnclosed (pairs (trial _/_ tl xl k) (trial ceilDiv th xh k)) (between t x (suc j) k)
-  unfolding trial pairs between
+      AllEnclosed (pairsOf (trial _/_ tl xl k) (trial ceilDiv th xh k)) (between t x (suc j) k)
+  unfolding trial zipWith between
   trial-encloses zero j tl th h = none
   trial-encloses (suc k) j tl th h =
-      let next : Encloses (pos (tl * xl / U)) (pos (ceilDiv (th * xh) U)) (onward t x (suc j)) = encloses-≈ (onward-suc t x j) (encloses-scaled U-positive h hx) in
+      let next = next-encloses j tl th h in
       more next (trial-encloses k (suc j) (tl * xl / U) (ceilDiv (th * xh) U) next)
 
   pub last-encloses : (k j tl th : ℕ) → Encloses (pos tl) (pos th) (onward t x j) →
@@ -47,9 +45,8 @@ module _ (t : ℚ) {xl xh : ℕ} {x : ℚ} (hx : Encloses (pos xl) (pos xh) x) w
   unfolding trial lastOf
   last-encloses zero j tl th h = rw (add-zero j) h
   last-encloses (suc k) j tl th h =
-      let next : Encloses (pos (tl * xl / U)) (pos (ceilDiv (th * xh) U)) (onward t x (suc j)) = encloses-≈ (onward-suc t x j) (encloses-scaled U-positive h hx) in
       let e : suc j + k ≡ j + suc k = omega arith in
-      rw (← e) (last-encloses k (suc j) (tl * xl / U) (ceilDiv (th * xh) U) next)
+      rw (← e) (last-encloses k (suc j) (tl * xl / U) (ceilDiv (th * xh) U) (next-encloses j tl th h))
 
 -- ---- the sum of the years of a gap, from the first or from the last
 

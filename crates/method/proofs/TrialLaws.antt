@@ -1,7 +1,8 @@
 -- Laws of the trial at a yearly factor x: a year more, the order of two trials, and how two trials compare by powers of their x.
 use mathlib.Core.Path.{_≡_, refl}
 use Prim.Native.Nat.{ℕ, zero, suc, _+_, _*_, _-_, _/_, _^_, _≤_, _<_}
-use native.Mathlib.Nat.{div-mul-le-self, lt-div-mul-add, le-of-mul-le-mul-right, lt-of-mul-lt-mul-right, mul-le-mul, mul-le-mul-left, mul-le-mul-right, mul-lt-mul-of-pos-left, pow-suc, pow-zero, le-refl, le-trans, lt-of-le-of-lt, add-zero, add-suc}
+use native.Mathlib.Nat.{div-mul-le-self, lt-div-mul-add, le-of-mul-le-mul-right, lt-of-mul-lt-mul-right, mul-le-mul, mul-le-mul-left}
+use native.Mathlib.Nat.{mul-le-mul-right, mul-lt-mul-of-pos-left, pow-suc, pow-zero, le-refl, le-trans, lt-of-le-of-lt, add-zero, add-suc}
 use native.Mathlib.Omega.{arith}
 use lib.Dec.{lit<}
 use Rattle.fraction.specs.Rounding.{U, ceilDiv}
@@ -126,5 +127,5 @@ module _ {f : ℕ → ℕ → ℕ} (o : Ordered f ceilDiv) {t x : ℕ} (start : 
   total-bounded (suc k) h = omega (arith, total-more f t x k, total-bounded k (omega arith), last-bounded (suc k) h)
 
 -- and its products fit 64 bits
-pub product-fits : (n x : ℕ) → n ≤ 6_000_000_000 → x ≤ upperEnd → n * x < 2 ^ 64
+pub product-fits : (n x : ℕ) → n ≤ 6_000_000_000 → x ≤ upperEnd → n * x < 2 ^ 63
 product-fits n x h k = lt-of-le-of-lt (mul-le-mul h k) (lit< tt)

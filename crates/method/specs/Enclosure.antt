@@ -8,7 +8,7 @@ use Rattle.fraction.specs.Rounding.{Encloses}
 use Rattle.method.specs.Sheet.{Numbers}
 use Rattle.method.specs.Quotes.{highestFactor}
 use Rattle.method.specs.Curve.{Curve}
-use Rattle.method.specs.True.{trueFactor}
+use Rattle.method.specs.True.{trueCurve, trueFactor}
 
 -- the low and the high of year t, from 1
 abbrev pub lowOf : Curve → ℕ → ℕ
@@ -25,4 +25,6 @@ pub record CurveHolds (s : Numbers) (c : Curve) : Type 0 where
   pub ordered : (t : ℕ) → 1 ≤ t → t ≤ 150 → lowOf c t ≤ highOf c t
   pub within-limit : (t : ℕ) → 1 ≤ t → t ≤ 150 → highOf c t ≤ lowOf c t + s .limit
   pub at-most : (t : ℕ) → 1 ≤ t → t ≤ 150 → highOf c t ≤ highestFactor
+  -- each of the 150 is a factor, none a default
+  pub true-years : (n : ℕ) → length (trueCurve n s) ≡ 150
   pub encloses-true : (n t : ℕ) → 1 ≤ t → t ≤ 150 → Encloses (pos (lowOf c t)) (pos (highOf c t)) (trueFactor n s t)

@@ -1,24 +1,19 @@
 -- SPECIFICATION 12: the figures marked * and those marked +, each as one list.
 use mathlib.Core.Path.{_≡_}
-use mathlib.Core.List.{List, [], _∷_, _++_}
+use mathlib.Core.List.{List, [], _∷_, _++_, map}
 use Prim.Native.Nat.{ℕ, zero, suc, _+_, _-_, _/_, _%_}
 use lib.IntN.{ℤ, pos, negsuc}
 use lib.ListN.{replicate, getD}
 use Rattle.fraction.specs.Rounding.{U}
+use Rattle.method.specs.Bytes.{bytes2, bytes4}
 use Rattle.method.specs.Units.{Pair, pair, SignedPair, signedPair}
-use Rattle.method.specs.Grounds.{Ground, lowBelowOne, highAboveLimit, endFailsTest, bandTooWide, Outcome, refused, done}
+use Rattle.method.specs.Grounds.{numberOf, placeOf, Outcome, refused, done}
 use Rattle.method.specs.Sheet.{maturities, volumeMaturities}
 use Rattle.method.specs.Quotes.{Bootstrap, bootstrap, quotesOf}
 use Rattle.method.specs.Series.{G, growthLow, growthHigh}
 use Rattle.method.specs.Curve.{Curve, answer}
 
 -- ---- sheets, byte by byte
-
-abbrev pub bytes2 : ℕ → List ℕ
-bytes2 n = n / 256 ∷ n % 256 ∷ []
-
-abbrev pub bytes4 : ℕ → List ℕ
-bytes4 n = n / 16_777_216 ∷ n / 65_536 % 256 ∷ bytes2 (n % 65_536)
 
 unfoldable pub rateRecords : List ℕ → List ℕ → List ℕ
 rateRecords [] rs = []
@@ -46,7 +41,14 @@ zeroSheet limit = sheetWith (replicate 17 0) limit
 abbrev pub minus2000 : ℕ
 minus2000 = 0xF830
 
--- ---- what is read off an answer
+-- ---- what is read off an answer, as numbers
+
+abbrev pub ends : List Pair → List ℤ
+ends [] = []
+ends (p ∷ ps) = pos (p .low) ∷ pos (p .high) ∷ ends ps
+
+abbrev pub signedEnds : SignedPair → List ℤ
+signedEnds p = p .low ∷ p .high ∷ []
 
 unfoldable pub factorsOf : Outcome Bootstrap → List Pair
 factorsOf (refused g) = []
@@ -59,33 +61,50 @@ yearsOf first (suc n) (refused g) = []
 yearsOf first zero (done c) = []
 yearsOf first (suc n) (done c) = pair (getD (c .lows) (first - 1) 0) (getD (c .highs) (first - 1) 0) ∷ yearsOf (first + 1) n (done c)
 
--- the ground, or the limit that the curve keeps
-unfoldable pub verdictOf : Outcome Curve → Outcome ℕ
-verdictOf (refused g) = refused g
-verdictOf (done c) = done (c .limit)
+-- number and place, 0 and 0 where the sheet is accepted
+unfoldable pub answerOf : Outcome Curve → List ℤ
+answerOf (refused g) = pos (numberOf g) ∷ pos (placeOf g) ∷ []
+answerOf (done c) = pos 0 ∷ pos 0 ∷ []
 
--- ---- the figures
+-- ---- the figures: what the definitions compute, beside what is stated
 
-pub record MarkedFigures : Type 0 where
-  pub rate-1-at-3000 : factorsOf (bootstrap (quotesOf (1 ∷ []) (pos 3_000 ∷ []))) ≡ pair 970_873_786 970_873_787 ∷ []
-  pub rate-2-also-3000 :
-      factorsOf (bootstrap (quotesOf (1 ∷ 2 ∷ []) (pos 3_000 ∷ pos 3_000 ∷ [])))
-      ≡ pair 970_873_786 970_873_787 ∷ pair 942_595_909 942_595_910 ∷ []
-  pub rate-1-at-minus-500 : factorsOf (bootstrap (quotesOf (1 ∷ []) (negsuc 499 ∷ []))) ≡ pair 1_005_025_125 1_005_025_126 ∷ []
-  pub logarithm-of-U : G U ≡ signedPair (pos 0) (pos 1)
-  pub growth-of-0 : pair (growthLow 0) (growthHigh 0) ≡ pair U (U + 1)
-  pub growth-of-1 : growthHigh 1 ≡ U + 8
-  pub years-1-to-20 : yearsOf 1 20 (answer (zeroSheet 100_000)) ≡ replicate 20 (pair U U)
-  pub years-21-and-22 :
-      yearsOf 21 2 (answer (zeroSheet 100_000)) ≡ pair 999_999_992 1_000_000_008 ∷ pair 999_999_984 1_000_000_017 ∷ []
-  pub limit-2209 : verdictOf (answer (zeroSheet 2_209)) ≡ done 2_209
-  pub limit-2208 : verdictOf (answer (zeroSheet 2_208)) ≡ refused (bandTooWide 150)
+pub record Figure : Type 0 where
+  pub computed : List ℤ
+  pub stated : List ℕ
 
--- not marked, and computed here too
-pub record OtherFigures : Type 0 where
-  pub year-150 : yearsOf 150 1 (answer (zeroSheet 100_000)) ≡ pair 999_998_960 1_000_001_169 ∷ []
-  pub all-at-minus-2000 : verdictOf (answer (sheetWith (replicate 17 minus2000) 100_000)) ≡ refused (highAboveLimit 35)
-  pub step-at-10 :
-      verdictOf (answer (sheetWith (replicate 9 minus2000 ++ 12_000 ∷ replicate 7 0) 100_000)) ≡ refused (lowBelowOne 10)
-  pub spike-at-12 :
-      verdictOf (answer (sheetWith (replicate 10 3_000 ++ 12_000 ∷ replicate 6 3_000) 100_000)) ≡ refused (endFailsTest 12)
+infixl 2 _is_
+abbrev pub _is_ : List ℤ → List ℕ → Figure
+_is_ c s = record { computed = c; stated = s }
+
+-- one test for any list of them
+abbrev pub FiguresHold : List Figure → Type 0
+FiguresHold fs = map (λ f. f .computed) fs ≡ map (λ f. map pos (f .stated)) fs
+
+-- marked *
+unfoldable pub marked : List Figure
+marked =
+    -- rate 1 at 3,000; rate 2 too; rate 1 at -500
+    (ends (factorsOf (bootstrap (quotesOf (1 ∷ []) (pos 3_000 ∷ [])))) is (970_873_786 ∷ 970_873_787 ∷ []))
+    ∷ (ends (factorsOf (bootstrap (quotesOf (1 ∷ 2 ∷ []) (pos 3_000 ∷ pos 3_000 ∷ [])))) is (970_873_786 ∷ 970_873_787 ∷ 942_595_909 ∷ 942_595_910 ∷ []))
+    ∷ (ends (factorsOf (bootstrap (quotesOf (1 ∷ []) (negsuc 499 ∷ [])))) is (1_005_025_125 ∷ 1_005_025_126 ∷ []))
+    -- G(U), E(0), the high of E(1)
+    ∷ (signedEnds (G U) is (0 ∷ 1 ∷ []))
+    ∷ (ends (pair (growthLow 0) (growthHigh 0) ∷ []) is (U ∷ 1_000_000_001 ∷ []))
+    ∷ (pos (growthHigh 1) ∷ [] is (1_000_000_008 ∷ []))
+    -- the zero sheet: years 1 to 20; 21 and 22; its limit
+    ∷ (ends (yearsOf 1 20 (answer (zeroSheet 100_000))) is replicate 40 U)
+    ∷ (ends (yearsOf 21 2 (answer (zeroSheet 100_000))) is (999_999_992 ∷ 1_000_000_008 ∷ 999_999_984 ∷ 1_000_000_017 ∷ []))
+    ∷ (answerOf (answer (zeroSheet 2_209)) is (0 ∷ 0 ∷ []))
+    ∷ (answerOf (answer (zeroSheet 2_208)) is (10 ∷ 150 ∷ []))
+    ∷ []
+
+-- marked +
+unfoldable pub others : List Figure
+others =
+    -- the zero sheet's year 150
+    (ends (yearsOf 150 1 (answer (zeroSheet 100_000))) is (999_998_960 ∷ 1_000_001_169 ∷ []))
+    -- all rates at -2,000; 1 to 9 at -2,000 and 10 at 12,000; all at 3,000 but 12 at 12,000
+    ∷ (answerOf (answer (sheetWith (replicate 17 minus2000) 100_000)) is (8 ∷ 35 ∷ []))
+    ∷ (answerOf (answer (sheetWith (replicate 9 minus2000 ++ 12_000 ∷ replicate 7 0) 100_000)) is (7 ∷ 10 ∷ []))
+    ∷ (answerOf (answer (sheetWith (replicate 10 3_000 ++ 12_000 ∷ replicate 6 3_000) 100_000)) is (9 ∷ 12 ∷ []))
+    ∷ []

@@ -1,4 +1,4 @@
--- SPECIFICATION 9: grounds 1 to 10, those of a post, each with its number and place.
+-- SPECIFICATION 9: the grounds, each with its number and place.
 use mathlib.Core.Bool.{Bool, true, false}
 use Prim.Native.Nat.{ℕ}
 
@@ -13,6 +13,11 @@ pub data Ground : Type 0 where
   highAboveLimit : ℕ → Ground
   endFailsTest : ℕ → Ground
   bandTooWide : ℕ → Ground
+  monthAboveLast : Ground
+  monthBeforeTold : Ground
+  yearOutside : Ground
+  noCurve : Ground
+  bufferTooShort : Ground
 
 abbrev pub numberOf : Ground → ℕ
 numberOf wrongLength = 1
@@ -25,6 +30,11 @@ numberOf (lowBelowOne t) = 7
 numberOf (highAboveLimit t) = 8
 numberOf (endFailsTest t) = 9
 numberOf (bandTooWide t) = 10
+numberOf monthAboveLast = 11
+numberOf monthBeforeTold = 12
+numberOf yearOutside = 13
+numberOf noCurve = 14
+numberOf bufferTooShort = 15
 
 -- a record from 1, a year, or 0 where none is named
 abbrev pub placeOf : Ground → ℕ
@@ -38,6 +48,11 @@ placeOf (lowBelowOne t) = t
 placeOf (highAboveLimit t) = t
 placeOf (endFailsTest t) = t
 placeOf (bandTooWide t) = t
+placeOf monthAboveLast = 0
+placeOf monthBeforeTold = 0
+placeOf yearOutside = 0
+placeOf noCurve = 0
+placeOf bufferTooShort = 0
 
 -- ---- a result, or the first ground that applies
 

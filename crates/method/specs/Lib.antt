@@ -1,7 +1,9 @@
 pub mod Units
+pub mod Bytes
 pub mod Grounds
 pub mod Sheet
 pub mod Quotes
+pub mod Ranges
 pub mod Series
 pub mod Table
 pub mod Extrapolation

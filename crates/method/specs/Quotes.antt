@@ -1,5 +1,5 @@
 -- SPECIFICATION 3: factors from the quotes, with grounds 7, 8 and 9 on their years.
-use mathlib.Core.Bool.{Bool, true, false, cond, not}
+use mathlib.Core.Bool.{Bool, true, false, cond, not, _&&_}
 use mathlib.Core.List.{List, [], _∷_, _++_, map}
 use Prim.Native.Nat.{ℕ, zero, suc, _+_, _*_, _-_, _/_}
 use lib.Dec.{leb, ltb, eqb}
@@ -9,7 +9,7 @@ use lib.Signed.{ltZ, leZ, nonNeg}
 use Rattle.fraction.specs.Rounding.{U, floor, ceiling, ceilDiv}
 use Rattle.method.specs.Units.{Pair, pair, rateUnit, parValue}
 use Rattle.method.specs.Grounds.{Ground, lowBelowOne, highAboveLimit, endFailsTest, Outcome, refused, done, _>>=_, demand}
-use Rattle.method.specs.Sheet.{both, total}
+use Rattle.method.specs.Sheet.{total}
 
 -- ---- A, and the factor of a quoted year by par
 
@@ -151,7 +151,7 @@ gapYears k r b = do
   let ps = b .factors
   let t = lastYear ps
   let g = gapAfter ps k r
-  _ ← demand (both (surelyNotAbove g lowerEnd) (surelyNotBelow g upperEnd)) (endFailsTest (length ps + k))
+  _ ← demand (surelyNotAbove g lowerEnd && surelyNotBelow g upperEnd) (endFailsTest (length ps + k))
   let x = pair (lowX g) (highX g)
   inside ← insideYears (trial _/_ (t .low) (x .low) (k - 1)) (trial ceilDiv (t .high) (x .high) (k - 1)) ps
   factors ← quotedYear r inside

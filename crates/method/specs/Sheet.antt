@@ -1,11 +1,12 @@
 -- SPECIFICATION 2: the sheet, with grounds 1 to 4.
-use mathlib.Core.Bool.{Bool, true, false, cond, not}
+use mathlib.Core.Bool.{Bool, true, false, cond, not, _&&_}
 use mathlib.Core.List.{List, [], _∷_, _++_, map}
 use Prim.Native.Nat.{ℕ, zero, suc, _+_, _*_}
 use lib.Dec.{eqb, ltb}
 use lib.IntN.{ℤ, pos, negsuc, natAbs, _-ℤ_}
 use lib.ListN.{length, take, drop, getD}
 use lib.Signed.{leZ}
+use Rattle.method.specs.Bytes.{bigEndian}
 use Rattle.method.specs.Grounds.{Ground, wrongLength, wrongRecord, outOfRange, noVolume, Outcome, refused, done, _>>=_, demand}
 
 -- ---- the 25 records
@@ -74,30 +75,36 @@ unfoldable pub entries : List Entry
 entries =
     entry month 0 ∷ map (entry rate) maturities ++ map (entry volume) volumeMaturities ++ entry ultimate 0 ∷ entry limit 0 ∷ []
 
--- a record in its turn, with the byte at which it starts
-pub record Turn : Type 0 where
+-- a slot: the kind and the maturity that are due there, and the byte at which its record starts
+pub record Slot : Type 0 where
   pub kind : Kind
   pub maturity : ℕ
   pub start : ℕ
 
 -- each record starts where the one before it ends
-unfoldable pub turnsFrom : ℕ → List Entry → List Turn
-turnsFrom s [] = []
-turnsFrom s (e ∷ es) = record { kind = e .kind; maturity = e .maturity; start = s } ∷ turnsFrom (s + 1 + bodyLength (e .kind)) es
+unfoldable pub slotsFrom : ℕ → List Entry → List Slot
+slotsFrom s [] = []
+slotsFrom s (e ∷ es) = record { kind = e .kind; maturity = e .maturity; start = s } ∷ slotsFrom (s + 1 + bodyLength (e .kind)) es
 
-unfoldable pub turns : List Turn
-turns = turnsFrom 0 entries
+unfoldable pub slots : List Slot
+slots = slotsFrom 0 entries
+
+abbrev pub slot : Kind → ℕ → ℕ → Slot
+slot k m s = record { kind = k; maturity = m; start = s }
+
+-- what stands past the last slot
+abbrev pub noSlot : Slot
+noSlot = slot month 0 0
+
+-- the slot at index i
+abbrev pub slotAt : ℕ → Slot
+slotAt i = getD slots i noSlot
 
 -- ---- a record's body and number
 
 -- a part of the sheet
-abbrev pub bodyOf : List ℕ → Turn → List ℕ
+abbrev pub bodyOf : List ℕ → Slot → List ℕ
 bodyOf s t = take (bodyLength (t .kind)) (drop (t .start + 1) s)
-
--- the high byte first
-unfoldable pub bigEndian : ℕ → List ℕ → ℕ
-bigEndian n [] = n
-bigEndian n (b ∷ bs) = bigEndian (n * 256 + b) bs
 
 abbrev pub twosComplement16 : ℕ → ℤ
 twosComplement16 n = cond (ltb n 0x8000) (pos n) (pos n -ℤ pos 0x10000)
@@ -109,14 +116,10 @@ reading volume n = pos n
 reading ultimate n = pos n
 reading limit n = pos n
 
-abbrev pub numberOfRecord : List ℕ → Turn → ℤ
+abbrev pub numberOfRecord : List ℕ → Slot → ℤ
 numberOfRecord s t = reading (t .kind) (bigEndian 0 (drop (maturityBytes (t .kind)) (bodyOf s t)))
 
 -- ---- grounds 1 to 4
-
-abbrev pub both : Bool → Bool → Bool
-both true b = b
-both false b = false
 
 abbrev pub maturityRight : Kind → ℕ → List ℕ → Bool
 maturityRight month m body = true
@@ -125,14 +128,14 @@ maturityRight volume m body = eqb (getD body 0 0) m
 maturityRight ultimate m body = true
 maturityRight limit m body = true
 
-abbrev pub rightRecord : List ℕ → Turn → Bool
-rightRecord s t = both (eqb (getD s (t .start) 0) (kindByte (t .kind))) (maturityRight (t .kind) (t .maturity) (bodyOf s t))
+abbrev pub rightRecord : List ℕ → Slot → Bool
+rightRecord s t = eqb (getD s (t .start) 0) (kindByte (t .kind)) && maturityRight (t .kind) (t .maturity) (bodyOf s t)
 
-abbrev pub inRange : List ℕ → Turn → Bool
-inRange s t = both (leZ (lowest (t .kind)) (numberOfRecord s t)) (leZ (numberOfRecord s t) (highest (t .kind)))
+abbrev pub inRange : List ℕ → Slot → Bool
+inRange s t = leZ (lowest (t .kind)) (numberOfRecord s t) && leZ (numberOfRecord s t) (highest (t .kind))
 
 -- the place of the first record that fails a test, counted on from i; 0 where none does
-unfoldable pub firstFailure : (Turn → Bool) → ℕ → List Turn → ℕ
+unfoldable pub firstFailure : (Slot → Bool) → ℕ → List Slot → ℕ
 firstFailure p i [] = 0
 firstFailure p i (t ∷ ts) = let rest = firstFailure p (suc i) ts in cond (p t) rest i
 
@@ -158,15 +161,19 @@ numbersOf zs =
       limit = natAbs (getD zs 24 (pos 0));
     }
 
+-- the numbers of the 25 records
+abbrev pub allNumbers : List ℕ → List ℤ
+allNumbers s = map (numberOfRecord s) slots
+
 abbrev pub sheetNumbers : List ℕ → Numbers
-sheetNumbers s = numbersOf (map (numberOfRecord s) turns)
+sheetNumbers s = numbersOf (allNumbers s)
 
 unfoldable pub readSheet : List ℕ → Outcome Numbers
 readSheet s = do
   _ ← demand (eqb (length s) 109) wrongLength
-  let wrong = firstFailure (rightRecord s) 1 turns
+  let wrong = firstFailure (rightRecord s) 1 slots
   _ ← demand (eqb wrong 0) (wrongRecord wrong)
-  let outside = firstFailure (inRange s) 1 turns
+  let outside = firstFailure (inRange s) 1 slots
   _ ← demand (eqb outside 0) (outOfRange outside)
   _ ← demand (ltb 0 (total (sheetNumbers s .volumes))) noVolume
   done (sheetNumbers s)

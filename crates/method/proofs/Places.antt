@@ -1,0 +1,174 @@
+-- The place of every refusal is at most 150: a record of 25, a quoted year of 50, or a year of 150.
+use mathlib.Core.Path.{_≡_, refl}
+use mathlib.Core.Bool.{Bool, true, false, cond}
+use mathlib.Core.List.{List, [], _∷_, _++_}
+use Prim.Native.Nat.{ℕ, zero, suc, _+_, _*_, _-_, _/_, _≤_, _<_}
+use native.Mathlib.Omega.{arith}
+use lib.Dec.{eqb, leb, ltb}
+use lib.IntN.{ℤ, pos}
+use lib.ListN.{length, take, length-append, length-take, length-map}
+use lib.Signed.{leZ}
+use Rattle.fraction.specs.Rounding.{U, ceilDiv}
+use Rattle.method.specs.Units.{Pair, SignedPair}
+use Rattle.method.specs.Grounds.{Ground, numberOf, placeOf, Outcome, refused, done, _>>=_, demand}
+use Rattle.method.specs.Grounds.{wrongLength, wrongRecord, outOfRange, noVolume, afterToldMonth, beforeStandingCurve, lowBelowOne}
+use Rattle.method.specs.Grounds.{highAboveLimit, endFailsTest, bandTooWide, monthAboveLast, monthBeforeTold, yearOutside, noCurve, bufferTooShort}
+use Rattle.method.specs.Sheet.{Slot, slots, firstFailure, rightRecord, inRange, total, Numbers, sheetNumbers, readSheet, maturities}
+use Rattle.method.specs.Quotes.{annuity, parLow, parHigh, trial, highestFactor, nextYear, quotedYear, insideYears, Bootstrap, gapYears}
+use Rattle.method.specs.Quotes.{Quote, parYear, yearsTo, bootstrapFrom, quotesOf, bootstrap}
+use Rattle.method.specs.Table.{table}
+use Rattle.method.specs.Extrapolation.{forward, step, extrapolate, κPairs, firstTooWide}
+use Rattle.method.specs.Curve.{curveOf, answer, smoothingYear}
+use Rattle.method.proofs.QuotesLaws.{endsPass, inside, years-cases}
+use Rattle.method.proofs.QuotesBounds.{next-length, inside-length, climbs, maturities-climb, climbs-more, climbs-within, years-length}
+use Rattle.method.proofs.Slots.{slots-length}
+use Rattle.method.proofs.ExtrapolationLaws.{table-length}
+use Rattle.method.proofs.Step.{extrapolate-length}
+
+-- 0 where nothing was refused, so that a bound is one inequality
+abbrev pub place : {A : Type 0} → Outcome A → ℕ
+place (refused g) = placeOf g
+place (done a) = 0
+
+-- ---- one test or one result after the other: the bound of each is the bound of all
+
+pub bind-place : {A B : Type 0} {m : ℕ} (o : Outcome A) (f : A → Outcome B) →
+    place o ≤ m → ((a : A) → o ≡ done a → place (f a) ≤ m) → place (o >>= f) ≤ m
+bind-place (refused g) f h k = h
+bind-place (done a) f h k = k a refl
+
+pub demand-place : {B : Type 0} {m : ℕ} (b : Bool) (g : Ground) (f : Unit {0} → Outcome B) →
+    placeOf g ≤ m → place (f tt) ≤ m → place (demand b g >>= f) ≤ m
+demand-place true g f h k = k
+demand-place false g f h k = h
+
+-- ---- the first in a list that fails a test, counted on from i, is at most the last
+
+cond-most : {m : ℕ} (b : Bool) (x y : ℕ) → x ≤ m → y ≤ m → cond b x y ≤ m
+cond-most true x y h k = h
+cond-most false x y h k = k
+
+failure-most : {m : ℕ} (p : Slot → Bool) (i : ℕ) (ts : List Slot) → i + length ts ≤ m + 1 → firstFailure p i ts ≤ m
+unfolding firstFailure
+failure-most p i [] h = omega arith
+failure-most p i (t ∷ ts) h = cond-most (p t) _ i (failure-most p (suc i) ts (omega arith)) (omega arith)
+
+wide-most : {m : ℕ} (limit year : ℕ) (ps : List Pair) → year + length ps ≤ m + 1 → firstTooWide limit year ps ≤ m
+unfolding firstTooWide
+wide-most limit year [] h = omega arith
+wide-most limit year (p ∷ ps) h =
+    cond-most (leb (p .high - p .low) limit) _ year (wide-most limit (year + 1) ps (omega arith)) (omega arith)
+
+-- ---- grounds 1 to 4
+
+pub read-place : (s : List ℕ) → place (readSheet s) ≤ 25
+unfolding readSheet
+read-place s =
+    let first : (p : Slot → Bool) → firstFailure p 1 slots ≤ 25 = λ p. failure-most p 1 slots (omega (arith, slots-length)) in
+    demand-place (eqb (length s) 109) _ _ (omega arith)
+    (demand-place (eqb (firstFailure (rightRecord s) 1 slots) 0) _ _ (first (rightRecord s))
+    (demand-place (eqb (firstFailure (inRange s) 1 slots) 0) _ _ (first (inRange s))
+    (demand-place (ltb 0 (total (sheetNumbers s .volumes))) _ _ (omega arith) (omega arith))))
+
+-- ---- grounds 7, 8 and 9: no year is worked past the maturity of its quote
+
+module _ {m : ℕ} where
+  next-place : (ps : List Pair) (low high : ℤ) → length ps < m → place (nextYear ps low high) ≤ m
+  next-place ps low high h =
+      demand-place (leZ (pos 1) low) _ _ (omega arith) (demand-place (leZ high (pos highestFactor)) _ _ (omega arith) (omega arith))
+
+  quoted-place : (r : ℤ) (ps : List Pair) → length ps < m → place (quotedYear r ps) ≤ m
+  unfolding quotedYear
+  quoted-place r ps h = let a = annuity ps in next-place ps (parLow r a) (parHigh r a) h
+
+  inside-place : (f : ℕ → ℕ → ℕ) (x k t : ℕ) (highs : List ℕ) (ps : List Pair) → length ps + k ≤ m → place (insideYears (trial f t x k) highs ps) ≤ m
+  unfolding insideYears trial
+  inside-place f x zero t highs ps h = omega arith
+  inside-place f x (suc k) t [] ps h = omega arith
+  inside-place f x (suc k) t (u ∷ highs) ps h =
+      let l = f (t * x) U in
+      bind-place (nextYear ps (pos l) (pos u)) _ (next-place ps (pos l) (pos u) (omega arith))
+      λ qs e. inside-place f x k l highs qs (omega (arith, next-length ps (pos l) (pos u) e))
+
+  gap-place : (k : ℕ) (r : ℤ) (b : Bootstrap) → 0 < k → length (b .factors) + k ≤ m → place (gapYears k r b) ≤ m
+  unfolding gapYears
+  gap-place k r b o h =
+      demand-place (endsPass k r (b .factors)) _ _ h
+      (bind-place (inside k r (b .factors)) _ (inside-place _/_ _ (k - 1) _ _ (b .factors) (omega arith))
+      λ ps e. bind-place (quotedYear r ps) _ (quoted-place r ps (omega (arith, inside-length _/_ ceilDiv _ _ (k - 1) _ _ (b .factors) e)))
+      λ qs d. omega arith)
+
+  par-place : (r : ℤ) (b : Bootstrap) → length (b .factors) < m → place (parYear r b) ≤ m
+  unfolding parYear
+  par-place r b h = bind-place (quotedYear r (b .factors)) _ (quoted-place r (b .factors) h) λ qs d. omega arith
+
+years-place : {m : ℕ} (q : Quote) (b : Bootstrap) → length (b .factors) < q .maturity → q .maturity ≤ m → place (yearsTo q b) ≤ m
+years-place q b h l =
+    years-cases q b
+    (λ k next. rw next (par-place (q .rate) b (omega arith)))
+    (λ k gap. rw gap (gap-place _ (q .rate) b (omega arith) (omega arith)))
+
+-- the maturities climb to 50, however many of them have a rate
+from-place : (ms : List ℕ) (rs : List ℤ) (b : Bootstrap) → climbs (length (b .factors)) (length (b .yearlyFactors)) ms ≡ true →
+    place (bootstrapFrom (quotesOf ms rs) b) ≤ 50
+unfolding bootstrapFrom quotesOf
+from-place [] rs b climb = omega arith
+from-place (m ∷ ms) [] b climb = omega arith
+from-place (m ∷ ms) (r ∷ rs) b climb =
+    let q : Quote = record { maturity = m; rate = r } in
+    let (rises, short, later) = climbs-more _ _ m ms climb in
+    bind-place (yearsTo q b) _ (years-place q b rises (climbs-within m _ ms later .0))
+    λ c e. let (years, gaps) = years-length q b rises e in from-place ms rs c (rw (years, gaps) later)
+
+pub bootstrap-place : (rs : List ℤ) → place (bootstrap (quotesOf maturities rs)) ≤ 50
+unfolding bootstrap
+bootstrap-place rs = from-place maturities rs _ maturities-climb
+
+-- ---- ground 8 past the smoothing year, and ground 10
+
+extrapolate-place : {m : ℕ} (l f : SignedPair) (κs : List Pair) (year : ℕ) (p : Pair) → year + length κs ≤ m + 1 → place (extrapolate l f κs year p) ≤ m
+unfolding extrapolate
+extrapolate-place l f [] year p h = omega arith
+extrapolate-place l f (κ ∷ κs) year p h =
+    let next = step (forward l f κ) p in
+    demand-place (leb (next .high) highestFactor) _ _ (omega arith)
+    (bind-place (extrapolate l f κs (year + 1) next) _ (extrapolate-place l f κs (year + 1) next (omega arith)) λ later e. omega arith)
+
+pub curve-place : (n : Numbers) → place (curveOf n) ≤ 150
+unfolding curveOf κPairs
+curve-place n =
+    let count : length (κPairs table) ≡ 130 = simp (length-map, table-length) in
+    bind-place (bootstrap (quotesOf maturities (n .rates))) _ (omega (arith, bootstrap-place (n .rates)))
+    λ b d. bind-place (extrapolate _ _ (κPairs table) _ _) _ (extrapolate-place _ _ (κPairs table) _ _ (omega arith))
+    λ later e.
+    let rest = extrapolate-length _ _ (κPairs table) _ _ e in
+    let all : length (take smoothingYear (b .factors) ++ later) ≤ 150 = simp (length-append, length-take) (omega arith) in
+    demand-place (eqb (firstTooWide (n .limit) 1 _) 0) _ _ (wide-most (n .limit) 1 _ (omega arith)) (omega arith)
+
+-- ---- the answer of any bytes
+
+pub answer-place : (s : List ℕ) (g : Ground) → answer s ≡ refused g → placeOf g ≤ 150
+unfolding answer
+answer-place s g e = rw e at most
+  where
+    most : place (readSheet s >>= curveOf) ≤ 150
+    most = bind-place (readSheet s) curveOf (omega (arith, read-place s)) λ n d. curve-place n
+
+-- ---- a number is below 256, so that it can stand beside the place in one number
+
+pub number-small : (g : Ground) → numberOf g < 256
+number-small wrongLength = omega arith
+number-small (wrongRecord i) = omega arith
+number-small (outOfRange i) = omega arith
+number-small noVolume = omega arith
+number-small afterToldMonth = omega arith
+number-small beforeStandingCurve = omega arith
+number-small (lowBelowOne t) = omega arith
+number-small (highAboveLimit t) = omega arith
+number-small (endFailsTest t) = omega arith
+number-small (bandTooWide t) = omega arith
+number-small monthAboveLast = omega arith
+number-small monthBeforeTold = omega arith
+number-small yearOutside = omega arith
+number-small noCurve = omega arith
+number-small bufferTooShort = omega arith
