@@ -1,16 +1,21 @@
--- A day of calls by computation: a wrong definition, or a wrong count, shows here in numbers.
-use mathlib.Core.Path.{_≡_, refl}
+-- A day of calls by computation: a wrong definition, or a wrong count, shows here in numbers. And the old box's answer of that day,
+-- February's curve under a March heading, is refused by demand 3 itself.
+use mathlib.Core.Path.{_≡_, refl, ap, sym, _∙_}
 use mathlib.Core.List.{List, [], _∷_, _++_}
 use Prim.Native.Nat.{ℕ}
+use native.Mathlib.Omega.{arith}
 use lib.ListN.{replicate, take, drop, length}
-use Rattle.method.specs.Grounds.{afterToldMonth, beforeStandingCurve, wrongLength}
+use Rattle.method.specs.Bytes.{bytes2, bytes4}
+use Rattle.method.specs.Grounds.{afterToldMonth, beforeStandingCurve, monthBeforeTold, noCurve, bufferTooShort, Outcome, refused, done}
 use Rattle.method.specs.Sheet.{maturities, volumeMaturities}
-use Rattle.method.specs.Figures.{rateRecords, volumeRecords, bytes2, bytes4}
+use Rattle.method.specs.Figures.{rateRecords, volumeRecords}
 use Rattle.method.proofs.Computes.{computes}
-use Rattle.ledger.specs.Answers.{Accepted, TurnedDown, Told, MonthBeforeTold, MonthAboveLast, Found, NoCurve, YearOutside, Written, NothingToPage, BufferTooShort}
+use Rattle.ledger.specs.Answers.{Finding, finding}
 use Rattle.ledger.specs.Page.{yearRecords, pageBytes}
-use Rattle.ledger.specs.Book.{fresh, post, postOutcome, turn, lookUp, page}
-use Rattle.ledger.specs.Calls.{Call, postOf, turnTo, lookAt, pageInto, run, sheet, count, acceptsSheet, acceptsMonth}
+use Rattle.ledger.specs.Book.{fresh, post, postOutcome, turn, turnOutcome, lookUp, page, pageOutcome}
+use Rattle.ledger.specs.Calls.{Call, postOf, turnTo, lookAt, pageInto, asks, run}
+use Rattle.ledger.specs.Count.{posted, count, acceptsSheet, acceptsMonth, typed, offsets}
+use Rattle.ledger.specs.Tells.{bandOf, LookTells, PageTells}
 
 -- a sheet with all rates alike, volumes 1 and ultimate rate 0
 flat : ℕ → ℕ → List ℕ
@@ -33,38 +38,42 @@ morning = turnTo 2 ∷ postOf february ∷ []
 
 day : List Call
 day =
-    lookAt 1 ∷ postOf february ∷ turnTo 2 ∷ postOf february ∷ lookAt 20 ∷ postOf march ∷ postOf february ∷ turnTo 1 ∷ turnTo 2_400
-    ∷ postOf [] ∷ turnTo 3 ∷ pageInto [] ∷ []
+    asks (lookAt 1) ∷ postOf february ∷ turnTo 2 ∷ postOf february ∷ asks (lookAt 20) ∷ postOf march ∷ postOf february ∷ turnTo 1
+    ∷ turnTo 2_400 ∷ postOf [] ∷ turnTo 3 ∷ asks (pageInto []) ∷ []
 
 -- opens what the examples compute with
+calls-open : ℕ
+unfolding post postOutcome turn turnOutcome lookUp page pageOutcome pageBytes yearRecords acceptsSheet acceptsMonth
+calls-open = 0
+
 opens : ℕ
-unfolding computes february march morning day flat rateRecords volumeRecords post postOutcome turn lookUp page pageBytes yearRecords acceptsSheet acceptsMonth
+unfolding computes calls-open february march morning day flat rateRecords volumeRecords
 opens = 0
 
-first-look : lookUp fresh 20 ≡ NoCurve
+first-look : lookUp fresh 20 ≡ refused noCurve
 unfolding opens
 first-look = refl
 
 -- nothing is told yet: 5
-too-early : post fresh february .answer ≡ TurnedDown afterToldMonth
+too-early : post fresh february .answer ≡ refused afterToldMonth
 unfolding opens
 too-early = refl
 
-morning-look : lookUp (run morning) 20 ≡ Found 1_000_000_000 1_000_000_000 1 1
+morning-look : lookUp (run morning) 20 ≡ done (finding 1_000_000_000 1_000_000_000 1 1)
 unfolding opens
 morning-look = refl
 
 -- March's curve with March's month, one month old
-evening-look : lookUp (run day) 20 ≡ Found 553_675_753 553_675_756 2 1
+evening-look : lookUp (run day) 20 ≡ done (finding 553_675_753 553_675_756 2 1)
 unfolding opens
 evening-look = refl
 
 -- before the standing curve: 6
-february-again : post (run day) february .answer ≡ TurnedDown beforeStandingCurve
+february-again : post (run day) february .answer ≡ refused beforeStandingCurve
 unfolding opens
 february-again = refl
 
-back : turn (run day) 2 .answer ≡ MonthBeforeTold
+back : turn (run day) 2 .answer ≡ refused monthBeforeTold
 unfolding opens
 back = refl
 
@@ -73,9 +82,9 @@ day-told : count day .told ≡ 3
 unfolding opens
 day-told = refl
 
-day-held : count day .held ≡ sheet march
+day-sheet : count day .sheet ≡ posted march
 unfolding opens
-day-held = refl
+day-sheet = refl
 
 -- a page: hex 48, month 2, age 1; the record of year 20; the byte past the page
 evening-page : take 5 (page (run day) (replicate 1_506 7) .buffer) ≡ 0x48 ∷ 0 ∷ 2 ∷ 0 ∷ 1 ∷ []
@@ -90,6 +99,28 @@ past-kept : drop 1_505 (page (run day) (replicate 1_506 7) .buffer) ≡ 7 ∷ []
 unfolding opens
 past-kept = refl
 
-short : page (run day) [] .answer ≡ BufferTooShort
+short : page (run day) [] .answer ≡ refused bufferTooShort
 unfolding opens
 short = refl
+
+-- ---- demand 3 refuses a wrong answer: February's factors with March's month and age
+
+march-band : bandOf march 20 .low ≡ 553_675_753
+unfolding opens
+march-band = refl
+
+abbrev low-of : Outcome Finding → ℕ
+low-of (refused g) = 0
+low-of (done f) = f .low
+
+february-under-march : LookTells (count day) 20 (done (finding 1_000_000_000 1_000_000_000 2 1)) → ⊥
+february-under-march tells =
+    let found = tells .finds march day-sheet (omega arith) (omega arith) .found in
+    let low : _≡_ {A = ℕ} 1_000_000_000 (bandOf march 20 .low) = ap low-of found in
+    omega (arith, low, march-band)
+
+-- a page that says written and leaves the buffer as lent
+blank-page : PageTells (count day) (replicate 1_505 7) (record { buffer = replicate 1_505 7; answer = done tt }) → ⊥
+blank-page tells =
+    let mark : _≡_ {A = ℕ} 7 0x48 = tells .writes march day-sheet (omega arith) .read .mark in
+    omega (arith, mark)

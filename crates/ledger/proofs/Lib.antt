@@ -1,5 +1,9 @@
-pub mod Count
+pub mod Typed
 pub mod PageLaws
+pub mod Count
+pub mod Asked
 pub mod Theorem
-pub mod Told
+pub mod FirstGround
+pub mod Stored
+pub mod Places
 pub mod Examples

@@ -6,8 +6,10 @@ use native.Mathlib.Nat.{suc-inj, add-zero, zero-add, le-of-suc-le-suc, div-div-e
 use native.Mathlib.Omega.{arith}
 use lib.ListN.{length, getD, drop, length-append, length-drop, List·getD-append}
 use lib.Seq.{getD-append-add, drop-at}
-use Rattle.ledger.specs.Page.{bytes2, bytes4, pageHead, yearRecord, yearRecords, pageBytes}
-use Rattle.ledger.specs.Demands.{read2, read4, PageRead}
+use Rattle.method.specs.Bytes.{bytes2, bytes4}
+use Rattle.method.specs.Units.{pair}
+use Rattle.ledger.specs.Page.{pageHead, yearRecord, yearRecords, pageBytes}
+use Rattle.ledger.specs.Tells.{read2, read4, PageRead}
 
 -- ---- the record of a year
 
@@ -89,13 +91,20 @@ module _ (month age : ℕ) (ls hs rest : List ℕ) (hl : length ls ≡ 150) (hh 
       (j : ℕ) → j ≡ 5 + i + 10 * (y - 1) →
       ((k : ℕ) → k < 4 → getD (yearRecord y (getD ls (y - 1) 0) (getD hs (y - 1) 0)) (i + k) 0 ≡ getD (bytes4 v) k 0) →
       read4 out j ≡ v
-  number-of-year y i v from to l b j e f = rw (byte 0 (omega arith) j (omega arith), byte 1 (omega arith) (j + 1) (omega arith), byte 2 (omega arith) (j + 2) (omega arith), byte 3 (omega arith) (j + 2 + 1) (omega arith)) (four-bytes v b)
+  number-of-year y i v from to l b j e f =
+      let first = byte 0 (omega arith) j (omega arith) in
+      let second = byte 1 (omega arith) (j + 1) (omega arith) in
+      let third = byte 2 (omega arith) (j + 2) (omega arith) in
+      let fourth = byte 3 (omega arith) (j + 2 + 1) (omega arith) in
+      rw (first, second, third, fourth) (four-bytes v b)
     where
       byte : (k : ℕ) → k < 4 → (m : ℕ) → m ≡ 5 + (i + k) + 10 * (y - 1) → getD out m 0 ≡ getD (bytes4 v) k 0
       byte k u m e = ap (λ (j : ℕ). getD out j 0) e ∙ byte-of-year y (i + k) from to (omega arith) ∙ f k u
 
-  pub page-read : month < 65_536 → age < 65_536 → ((k : ℕ) → k < 150 → getD ls k 0 < 4_294_967_296) → ((k : ℕ) → k < 150 → getD hs k 0 < 4_294_967_296) →
-      PageRead out month age (λ y. getD ls (y - 1) 0) (λ y. getD hs (y - 1) 0)
+  pub page-read :
+      month < 65_536 → age < 65_536 →
+      ((k : ℕ) → k < 150 → getD ls k 0 < 4_294_967_296) → ((k : ℕ) → k < 150 → getD hs k 0 < 4_294_967_296) →
+      PageRead out month age (λ y. pair (getD ls (y - 1) 0) (getD hs (y - 1) 0))
   unfolding pageBytes
   page-read hm ha bl bh =
       record {
@@ -104,6 +113,10 @@ module _ (month age : ℕ) (ls hs rest : List ℕ) (hl : length ls ≡ 150) (hh 
         age-read = two-bytes age ha;
         year-mark = λ y h k. byte-of-year y 0 h k (omega arith);
         year-read = λ y h k. byte-of-year y 1 h k (omega arith);
-        low-read = λ y h k. number-of-year y 2 (getD ls (y - 1) 0) h k (omega arith) (bl (y - 1) (omega arith)) (7 + 10 * (y - 1)) (omega arith) (each-of-4 _ refl refl refl refl);
-        high-read = λ y h k. number-of-year y 6 (getD hs (y - 1) 0) h k (omega arith) (bh (y - 1) (omega arith)) (11 + 10 * (y - 1)) (omega arith) (each-of-4 _ refl refl refl refl);
+        low-read = λ y h k.
+            number-of-year y 2 (getD ls (y - 1) 0) h k (omega arith) (bl (y - 1) (omega arith)) (7 + 10 * (y - 1)) (omega arith)
+            (each-of-4 _ refl refl refl refl);
+        high-read = λ y h k.
+            number-of-year y 6 (getD hs (y - 1) 0) h k (omega arith) (bh (y - 1) (omega arith)) (11 + 10 * (y - 1)) (omega arith)
+            (each-of-4 _ refl refl refl refl);
       }

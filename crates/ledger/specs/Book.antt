@@ -1,107 +1,116 @@
 -- SPECIFICATION 7: the book, and what each call answers and leaves behind, with grounds 1 to 15 in their order.
-use mathlib.Core.Bool.{Bool, true, false, cond}
+use mathlib.Core.Bool.{Bool, true, _&&_}
 use mathlib.Core.List.{List, _++_}
-use Prim.Native.Nat.{ℕ, _+_, _-_}
-use lib.Dec.{leb, ltb}
-use lib.ListN.{length, getD, drop, replicate}
-use Rattle.method.specs.Grounds.{Ground, afterToldMonth, beforeStandingCurve, Outcome, refused, done, _>>=_, demand}
-use Rattle.method.specs.Sheet.{Numbers, readSheet, both}
+use Prim.Native.Nat.{ℕ, _-_}
+use lib.Dec.{leb}
+use lib.ListN.{length, drop}
+use Rattle.method.specs.Grounds.{afterToldMonth, beforeStandingCurve, monthAboveLast, monthBeforeTold, yearOutside, noCurve, bufferTooShort}
+use Rattle.method.specs.Grounds.{Outcome, refused, done, _>>=_, demand}
+use Rattle.method.specs.Sheet.{Numbers, readSheet}
 use Rattle.method.specs.Curve.{Curve, curveOf}
-use Rattle.ledger.specs.Answers.{PostAnswer, Accepted, TurnedDown, TurnAnswer, Told, MonthAboveLast, MonthBeforeTold, LookAnswer, Found, YearOutside, NoCurve, PageAnswer, Written, NothingToPage, BufferTooShort}
+use Rattle.method.specs.Enclosure.{lowOf, highOf}
+use Rattle.ledger.specs.Answers.{Finding, finding}
 use Rattle.ledger.specs.Page.{pageBytes, pageLength}
 
--- a told month and, if it has one, a curve
+-- the curve of the last accepted sheet, if there is one
+pub data Standing : Type 0 where
+  none : Standing
+  some : Curve → Standing
+
 pub record Book : Type 0 where
   pub told : ℕ
-  pub has : Bool
-  pub curve : Curve
-
--- what stands in the place of a curve where there is none
-abbrev pub noCurve : Curve
-noCurve = record { month = 0; limit = 0; lows = replicate 150 0; highs = replicate 150 0 }
+  pub standing : Standing
 
 -- told month 0 and no curve
 abbrev pub fresh : Book
-fresh = record { told = 0; has = false; curve = noCurve }
+fresh = record { told = 0; standing = none }
+
+-- ---- a call that may change the book: the book after it, and the month that it answers
+
+pub record Booked : Type 0 where
+  pub book : Book
+  pub answer : Outcome ℕ
+
+-- a refusal leaves the book as it was
+abbrev pub booked : {A : Type 0} → Book → (A → Book) → (A → ℕ) → Outcome A → Booked
+booked b changed month (refused g) = record { book = b; answer = refused g }
+booked b changed month (done a) = record { book = changed a; answer = done (month a) }
 
 -- ---- post: 1 to 4, then 5 and 6, then 7 to 10
 
--- not before the standing curve's month
-abbrev pub notBefore : Bool → ℕ → ℕ → Bool
-notBefore false standing month = true
-notBefore true standing month = leb standing month
+-- not before the standing curve's month; while none stands, any month passes
+abbrev pub notBefore : Standing → ℕ → Bool
+notBefore none month = true
+notBefore (some c) month = leb (c .month) month
 
 unfoldable pub postOutcome : Book → List ℕ → Outcome Curve
 postOutcome b s = do
   n ← readSheet s
   _ ← demand (leb (n .month) (b .told)) afterToldMonth
-  _ ← demand (notBefore (b .has) (b .curve .month) (n .month)) beforeStandingCurve
+  _ ← demand (notBefore (b .standing) (n .month)) beforeStandingCurve
   curveOf n
 
-pub record Posted : Type 0 where
-  pub book : Book
-  pub answer : PostAnswer
-
--- the curve and its month are replaced
+-- the curve and its month are replaced; the answer is the sheet's month
 abbrev pub withCurve : Book → Curve → Book
-withCurve b c = record { told = b .told; has = true; curve = c }
+withCurve b c = record { told = b .told; standing = some c }
 
-abbrev pub postedBy : Book → Outcome Curve → Posted
-postedBy b (refused g) = record { book = b; answer = TurnedDown g }
-postedBy b (done c) = record { book = withCurve b c; answer = Accepted (c .month) }
-
-unfoldable pub post : Book → List ℕ → Posted
-post b s = postedBy b (postOutcome b s)
+unfoldable pub post : Book → List ℕ → Booked
+post b s = booked b (withCurve b) (λ c. c .month) (postOutcome b s)
 
 -- ---- turn: 11, 12
 
 abbrev pub lastMonth : ℕ
 lastMonth = 2_399
 
-pub record Turned : Type 0 where
-  pub book : Book
-  pub answer : TurnAnswer
+unfoldable pub turnOutcome : Book → ℕ → Outcome ℕ
+turnOutcome b m = do
+  _ ← demand (leb m lastMonth) monthAboveLast
+  _ ← demand (leb (b .told) m) monthBeforeTold
+  done m
 
+-- the answer is the month that is now told
 abbrev pub withTold : Book → ℕ → Book
-withTold b m = record { told = m; has = b .has; curve = b .curve }
+withTold b m = record { told = m; standing = b .standing }
 
-abbrev pub turned : Book → TurnAnswer → Turned
-turned b a = record { book = b; answer = a }
-
-unfoldable pub turn : Book → ℕ → Turned
-turn b m =
-    cond (ltb lastMonth m) (turned b MonthAboveLast)
-    (cond (ltb m (b .told)) (turned b MonthBeforeTold)
-    (turned (withTold b m) (Told m)))
+unfoldable pub turn : Book → ℕ → Booked
+turn b m = booked b (withTold b) (λ m. m) (turnOutcome b m)
 
 -- ---- look-up: 13, 14
 
+abbrev pub standingCurve : Standing → Outcome Curve
+standingCurve none = refused noCurve
+standingCurve (some c) = done c
+
 -- told month less sheet month
-abbrev pub age : Book → ℕ
-age b = b .told - b .curve .month
+abbrev pub age : Book → Curve → ℕ
+age b c = b .told - c .month
 
 abbrev pub yearInside : ℕ → Bool
-yearInside y = both (leb 1 y) (leb y 150)
+yearInside y = leb 1 y && leb y 150
 
-unfoldable pub lookUp : Book → ℕ → LookAnswer
-lookUp b y =
-    cond (yearInside y)
-    (cond (b .has) (Found (getD (b .curve .lows) (y - 1) 0) (getD (b .curve .highs) (y - 1) 0) (b .curve .month) (age b)) NoCurve)
-    YearOutside
+unfoldable pub lookUp : Book → ℕ → Outcome Finding
+lookUp b y = do
+  _ ← demand (yearInside y) yearOutside
+  c ← standingCurve (b .standing)
+  done (finding (lowOf c y) (highOf c y) (c .month) (age b c))
 
 -- ---- page: 14, 15
 
+-- bytes past the page are kept
+unfoldable pub pageOutcome : Book → List ℕ → Outcome (List ℕ)
+pageOutcome b l = do
+  c ← standingCurve (b .standing)
+  _ ← demand (leb pageLength (length l)) bufferTooShort
+  done (pageBytes (c .month) (age b c) (c .lows) (c .highs) ++ drop pageLength l)
+
 pub record Paged : Type 0 where
   pub buffer : List ℕ
-  pub answer : PageAnswer
+  pub answer : Outcome (Unit {0})
 
-abbrev pub paged : List ℕ → PageAnswer → Paged
-paged l a = record { buffer = l; answer = a }
+-- a refusal leaves the buffer as it was lent
+abbrev pub pagedBy : List ℕ → Outcome (List ℕ) → Paged
+pagedBy l (refused g) = record { buffer = l; answer = refused g }
+pagedBy l (done out) = record { buffer = out; answer = done tt }
 
--- bytes past the page are kept
 unfoldable pub page : Book → List ℕ → Paged
-page b l =
-    cond (b .has)
-    (cond (ltb (length l) pageLength) (paged l BufferTooShort)
-    (paged (pageBytes (b .curve .month) (age b) (b .curve .lows) (b .curve .highs) ++ drop pageLength l) Written))
-    (paged l NothingToPage)
+page b l = pagedBy l (pageOutcome b l)

@@ -2,5 +2,6 @@ pub mod Answers
 pub mod Page
 pub mod Book
 pub mod Calls
+pub mod Count
+pub mod Tells
 pub mod Demands
-pub mod Told

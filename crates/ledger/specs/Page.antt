@@ -1,13 +1,7 @@
 -- SPECIFICATION 7: the 1,505 bytes of a page.
 use mathlib.Core.List.{List, [], _∷_, _++_}
-use Prim.Native.Nat.{ℕ, suc, _+_, _/_, _%_}
-
--- numbers in bytes have the high byte first
-abbrev pub bytes2 : ℕ → List ℕ
-bytes2 n = n / 256 % 256 ∷ n % 256 ∷ []
-
-abbrev pub bytes4 : ℕ → List ℕ
-bytes4 n = n / 16_777_216 % 256 ∷ n / 65_536 % 256 ∷ n / 256 % 256 ∷ n % 256 ∷ []
+use Prim.Native.Nat.{ℕ, suc, _+_}
+use Rattle.method.specs.Bytes.{bytes2, bytes4}
 
 -- hex 48, month, age
 abbrev pub pageHead : ℕ → ℕ → List ℕ

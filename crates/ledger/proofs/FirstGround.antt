@@ -1,0 +1,142 @@
+-- Demand 1: the result, or the first ground that applies; a refusal changes nothing.
+use mathlib.Core.Path.{_≡_, refl, ap, sym, _∙_}
+use mathlib.Core.Bool.{Bool, true, false, not, _&&_}
+use mathlib.Core.List.{List, [], _∷_, _++_}
+use Prim.Native.Nat.{ℕ, zero, suc, _-_}
+use native.Mathlib.Omega.{arith}
+use borrow.Author.Tests.{leb-true, leb-false, le-leb, lt-ltb, le-ltb}
+use lib.Dec.{leb, ltb, eqb, eqb·suc-zero}
+use lib.ListN.{length, drop}
+use Rattle.method.specs.Grounds.{Ground, afterToldMonth, beforeStandingCurve, monthAboveLast, monthBeforeTold, yearOutside, noCurve, bufferTooShort}
+use Rattle.method.specs.Grounds.{Outcome, refused, done, _>>=_, demand}
+use Rattle.method.specs.Sheet.{Numbers, readSheet, sheetNumbers, slots, firstFailure, rightRecord, inRange, total}
+use Rattle.method.specs.Curve.{Curve, curveOf}
+use Rattle.method.specs.Enclosure.{lowOf, highOf}
+use Rattle.method.proofs.Outcome.{split}
+use Rattle.ledger.specs.Answers.{finding}
+use Rattle.ledger.specs.Page.{pageBytes}
+use Rattle.ledger.specs.Book.{Standing, none, some, Book, Booked, booked, notBefore, postOutcome, withCurve, post, turnOutcome, withTold, turn}
+use Rattle.ledger.specs.Book.{standingCurve, age, lookUp, pageOutcome, pagedBy, page}
+use Rattle.ledger.specs.Demands.{Applies, when, first, standsAfter, vacant, postGrounds, turnGrounds, lookGrounds, pageGrounds, foundIn, monthIn, Demand1}
+use Rattle.ledger.proofs.Asked.{refusal-kept, page-refused}
+
+-- a demand in its turn is a ground that applies where its test fails
+demand-first : {A : Type 0} (t : Bool) (g : Ground) (x : Outcome A) (rest : List Applies) (o : Outcome A) → x ≡ first rest o →
+    (demand t g >>= (λ _. x)) ≡ first (when (not t) g ∷ rest) o
+demand-first true g x rest o e = e
+demand-first false g x rest o e = refl
+
+-- the four grounds of reading, then what comes after
+read-first :
+    (f : Numbers → Outcome Curve) (n : Numbers) (t1 t2 t3 t4 : Bool) (g1 g2 g3 g4 : Ground) (rest : List Applies) (o : Outcome Curve) →
+    f n ≡ first rest o →
+    ((demand t1 g1 >>= (λ _. demand t2 g2 >>= (λ _. demand t3 g3 >>= (λ _. demand t4 g4 >>= (λ _. done n))))) >>= f)
+    ≡ first (when (not t1) g1 ∷ when (not t2) g2 ∷ when (not t3) g3 ∷ when (not t4) g4 ∷ rest) o
+read-first f n true true true true g1 g2 g3 g4 rest o e = e
+read-first f n true true true false g1 g2 g3 g4 rest o e = refl
+read-first f n true true false t4 g1 g2 g3 g4 rest o e = refl
+read-first f n true false t3 t4 g1 g2 g3 g4 rest o e = refl
+read-first f n false t2 t3 t4 g1 g2 g3 g4 rest o e = refl
+
+-- the tests, and their opposites as the grounds word them
+none-traded : (v : ℕ) → eqb v 0 ≡ not (ltb 0 v)
+none-traded zero = refl
+none-traded (suc v) = eqb·suc-zero v ∙ ap not (sym (lt-ltb 0 (suc v) (omega arith)))
+
+not-at-most : (t m : ℕ) → ltb t m ≡ not (leb m t)
+not-at-most t m = split (leb m t) (λ q. rw (q, le-ltb t m (leb-true m t q))) (λ q. rw (q, lt-ltb t m (leb-false m t q)))
+
+before-standing : (k : Standing) (m : ℕ) → standsAfter k m ≡ not (notBefore k m)
+before-standing none m = refl
+before-standing (some c) m = not-at-most m (c .month)
+
+no-year : (y : ℕ) → eqb y 0 ≡ not (leb 1 y)
+no-year zero = refl
+no-year (suc y) = eqb·suc-zero y ∙ ap not (sym (le-leb 1 (suc y) (omega arith)))
+
+outcome-first : (b : Book) (s : List ℕ) → postOutcome b s ≡ first (postGrounds b s) (curveOf (sheetNumbers s))
+unfolding postOutcome readSheet postGrounds
+outcome-first b s =
+    let n = sheetNumbers s in
+    let standing = when (not (notBefore (b .standing) (n .month))) beforeStandingCurve in
+    let told = when (not (leb (n .month) (b .told))) afterToldMonth in
+    let o = curveOf n in
+    rw (none-traded (total (n .volumes)), not-at-most (b .told) (n .month), before-standing (b .standing) (n .month))
+    (read-first _ n
+    (eqb (length s) 109) (eqb (firstFailure (rightRecord s) 1 slots) 0) (eqb (firstFailure (inRange s) 1 slots) 0) (ltb 0 (total (n .volumes)))
+    _ _ _ _ (told ∷ standing ∷ []) o
+    (demand-first (leb (n .month) (b .told)) afterToldMonth _ (standing ∷ []) o
+    (demand-first (notBefore (b .standing) (n .month)) beforeStandingCurve o [] o refl)))
+
+booked-refused : {A : Type 0} (b : Book) (changed : A → Book) (month : A → ℕ) (o : Outcome A) (g : Ground) →
+    booked b changed month o .answer ≡ refused g → booked b changed month o .book ≡ b
+booked-refused b changed month (refused x) g e = refl
+booked-refused b changed month (done a) g e = absurd (refusal-kept {a = done (month a)} refl e)
+
+posted-answer : (b : Book) (o : Outcome Curve) → booked b (withCurve b) (λ c. c .month) o .answer ≡ monthIn o
+posted-answer b (refused g) = refl
+posted-answer b (done c) = refl
+
+turned-answer : (b : Book) (o : Outcome ℕ) → booked b (withTold b) (λ m. m) o .answer ≡ o
+turned-answer b (refused g) = refl
+turned-answer b (done m) = refl
+
+turn-outcome-first : (b : Book) (m : ℕ) → turnOutcome b m ≡ first (turnGrounds b m) (done m)
+unfolding turnOutcome turnGrounds
+turn-outcome-first b m =
+    let twelve = when (not (leb (b .told) m)) monthBeforeTold in
+    rw (not-at-most 2_399 m, not-at-most m (b .told))
+    (demand-first (leb m 2_399) monthAboveLast _ (twelve ∷ []) (done m) (demand-first (leb (b .told) m) monthBeforeTold (done m) [] (done m) refl))
+
+look-first-is : (b : Book) (y : ℕ) → lookUp b y ≡ first (lookGrounds b y) (done (foundIn (b .told) (b .standing) y))
+unfolding lookUp lookGrounds
+look-first-is b y = rw (no-year y, not-at-most 150 y) (go (b .told) (b .standing) (leb 1 y) (leb y 150))
+  where
+    go : (told : ℕ) (k : Standing) (p q : Bool) →
+        (demand (p && q) yearOutside >>= (λ _. standingCurve k >>= (λ c. done (finding (lowOf c y) (highOf c y) (c .month) (told - c .month)))))
+        ≡ first (when (not p) yearOutside ∷ when (not q) yearOutside ∷ when (vacant k) noCurve ∷ []) (done (foundIn told k y))
+    go told none true true = refl
+    go told (some c) true true = refl
+    go told k true false = refl
+    go told k false q = refl
+
+abbrev over : Book → List ℕ → Curve → List ℕ
+over b l c = pageBytes (c .month) (age b c) (c .lows) (c .highs) ++ drop 1_505 l
+
+page-first-is : (b : Book) (l : List ℕ) → page b l .answer ≡ first (pageGrounds b l) (done tt)
+unfolding page pageOutcome pageGrounds
+page-first-is b l = rw (not-at-most (length l) 1_505) (go (b .standing) (leb 1_505 (length l)))
+  where
+    go : (k : Standing) (p : Bool) →
+        pagedBy l (standingCurve k >>= (λ c. demand p bufferTooShort >>= (λ _. done (over b l c)))) .answer
+        ≡ first (when (vacant k) noCurve ∷ when (not p) bufferTooShort ∷ []) (done tt)
+    go none p = refl
+    go (some c) true = refl
+    go (some c) false = refl
+
+-- by its two tests
+abbrev turned : Book → ℕ → Bool → Bool → Booked
+turned b m p q = booked b (withTold b) (λ m. m) (demand p monthAboveLast >>= (λ _. demand q monthBeforeTold >>= (λ _. done m)))
+
+turned-told : (b : Book) (m k : ℕ) → turn b m .answer ≡ done k → turn b m .book ≡ record { told = m; standing = b .standing }
+unfolding turn turnOutcome
+turned-told b m k e = go (leb m 2_399) (leb (b .told) m) e
+  where
+    go : (p q : Bool) → turned b m p q .answer ≡ done k → turned b m p q .book ≡ record { told = m; standing = b .standing }
+    go true true e = refl
+    go true false e = absurd (refusal-kept e refl)
+    go false q e = absurd (refusal-kept e refl)
+
+pub demand-1 : (b : Book) → Demand1 b
+unfolding post turn
+demand-1 b =
+    record {
+      post-first = λ s. posted-answer b (postOutcome b s) ∙ ap monthIn (outcome-first b s);
+      post-refused = λ s g e. booked-refused b (withCurve b) (λ c. c .month) (postOutcome b s) g e;
+      turn-first = λ m. turned-answer b (turnOutcome b m) ∙ turn-outcome-first b m;
+      turn-refused = λ m g e. booked-refused b (withTold b) (λ m. m) (turnOutcome b m) g e;
+      turn-told = turned-told b;
+      look-first = look-first-is b;
+      page-first = page-first-is b;
+      page-refused = page-refused b;
+    }

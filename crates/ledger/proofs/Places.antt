@@ -1,0 +1,64 @@
+-- The place that any call is answered is at most 150, for every book: only a post's grounds name one.
+use mathlib.Core.List.{List}
+use Prim.Native.Nat.{ℕ, _≤_}
+use native.Mathlib.Omega.{arith}
+use lib.Dec.{leb}
+use lib.ListN.{length}
+use Rattle.method.specs.Grounds.{Outcome, refused, done}
+use Rattle.method.specs.Sheet.{readSheet}
+use Rattle.method.proofs.Places.{place, bind-place, demand-place, read-place, curve-place}
+use Rattle.ledger.specs.Answers.{answerPlace}
+use Rattle.ledger.specs.Page.{pageLength}
+use Rattle.ledger.specs.Book.{Standing, none, some, Book, booked, notBefore, postOutcome, post, lastMonth, turnOutcome, turn}
+use Rattle.ledger.specs.Book.{standingCurve, yearInside, lookUp, pageOutcome, pagedBy, page}
+use Rattle.ledger.specs.Calls.{Call, postOf, turnTo, asks, lookAt, pageInto, answerOf}
+
+-- a refusal is answered as it is, and an accepted call at place 0
+booked-place : {A : Type 0} {m : ℕ} (b : Book) (changed : A → Book) (month : A → ℕ) (o : Outcome A) →
+    place o ≤ m → answerPlace (booked b changed month o .answer) ≤ m
+booked-place b changed month (refused g) h = h
+booked-place b changed month (done a) h = h
+
+paged-place : {m : ℕ} (l : List ℕ) (o : Outcome (List ℕ)) → place o ≤ m → answerPlace (pagedBy l o .answer) ≤ m
+paged-place l (refused g) h = h
+paged-place l (done out) h = h
+
+-- ---- post: 5 and 6 have place 0
+
+pub post-place : (b : Book) (s : List ℕ) → answerPlace (post b s .answer) ≤ 150
+unfolding post postOutcome
+post-place b s =
+    booked-place b _ _ (postOutcome b s)
+    (bind-place (readSheet s) _ (omega (arith, read-place s))
+    λ n e. demand-place (leb (n .month) (b .told)) _ _ (omega arith)
+    (demand-place (notBefore (b .standing) (n .month)) _ _ (omega arith) (curve-place n)))
+
+-- ---- the other calls: 11 to 15 have place 0
+
+turn-place : (b : Book) (m : ℕ) → answerPlace (turn b m .answer) ≤ 0
+unfolding turn turnOutcome
+turn-place b m =
+    booked-place b _ _ (turnOutcome b m)
+    (demand-place (leb m lastMonth) _ _ (omega arith) (demand-place (leb (b .told) m) _ _ (omega arith) (omega arith)))
+
+standing-place : (s : Standing) → place (standingCurve s) ≤ 0
+standing-place none = omega arith
+standing-place (some c) = omega arith
+
+look-place : (b : Book) (y : ℕ) → answerPlace (lookUp b y) ≤ 0
+unfolding lookUp
+look-place b y =
+    demand-place (yearInside y) _ _ (omega arith) (bind-place (standingCurve (b .standing)) _ (standing-place (b .standing)) λ c e. omega arith)
+
+page-place : (b : Book) (l : List ℕ) → answerPlace (page b l .answer) ≤ 0
+unfolding page pageOutcome
+page-place b l =
+    paged-place l (pageOutcome b l)
+    (bind-place (standingCurve (b .standing)) _ (standing-place (b .standing))
+    λ c e. demand-place (leb pageLength (length l)) _ _ (omega arith) (omega arith))
+
+pub answer-place : (b : Book) (c : Call) → answerOf b c .place ≤ 150
+answer-place b (postOf s) = post-place b s
+answer-place b (turnTo m) = omega (arith, turn-place b m)
+answer-place b (asks (lookAt y)) = omega (arith, look-place b y)
+answer-place b (asks (pageInto l)) = omega (arith, page-place b l)

@@ -1,0 +1,63 @@
+-- Demand 2: what a post accepts and stores, and what a page carries.
+use mathlib.Core.Path.{_≡_, refl}
+use mathlib.Core.Bool.{true}
+use mathlib.Core.List.{List}
+use Prim.Native.Nat.{ℕ, _≤_}
+use native.Mathlib.Omega.{arith}
+use borrow.Author.Tests.{leb-true, le-leb}
+use lib.Dec.{leb}
+use Rattle.method.specs.Grounds.{afterToldMonth, beforeStandingCurve, Outcome, refused, done}
+use Rattle.method.specs.Sheet.{readSheet}
+use Rattle.method.specs.Curve.{Curve, curveOf}
+use Rattle.method.proofs.Outcome.{bind-done, demand-done}
+use Rattle.ledger.specs.Book.{Standing, none, some, Book, booked, notBefore, postOutcome, withCurve, post}
+use Rattle.ledger.specs.Demands.{holding, Accepted, Demand2}
+use Rattle.ledger.proofs.Asked.{refusal-kept, page-of-book}
+
+not-before : (k : Standing) (m : ℕ) → ((c : Curve) → k ≡ some c → c .month ≤ m) → notBefore k m ≡ true
+not-before none m h = refl
+not-before (some c) m h = le-leb (c .month) m (h c refl)
+
+before-none : (k : Standing) (m : ℕ) → notBefore k m ≡ true → (c : Curve) → k ≡ some c → c .month ≤ m
+before-none none m t c e = let z : _≡_ {A = ℕ} 0 1 = cc in absurd (omega arith)
+before-none (some d) m t c e = let same : d ≡ c = cc e in rw (← same) (leb-true (d .month) m t)
+
+accepts-it : (b : Book) (s : List ℕ) (c : Curve) → Accepted b s c → postOutcome b s ≡ done c
+unfolding postOutcome
+accepts-it b s c a =
+    let n = a .numbers in
+    rw (a .reads, le-leb (n .month) (b .told) (a .month-told), not-before (b .standing) (n .month) (a .in-order)) (a .worked)
+
+was-accepted : (b : Book) (s : List ℕ) (c : Curve) → postOutcome b s ≡ done c → Accepted b s c
+unfolding postOutcome
+was-accepted b s c e =
+    let read = bind-done (readSheet s) _ e in
+    let n = read .0 in
+    let five = demand-done (leb (n .month) (b .told)) afterToldMonth _ (read .2) in
+    let six = demand-done (notBefore (b .standing) (n .month)) beforeStandingCurve _ (five .1) in
+    record {
+      numbers = n;
+      reads = read .1;
+      month-told = leb-true (n .month) (b .told) (five .0);
+      in-order = before-none (b .standing) (n .month) (six .0);
+      worked = six .1;
+    }
+
+accepted-only : (b : Book) (s : List ℕ) (m : ℕ) → post b s .answer ≡ done m →
+    (c : Curve) × Accepted b s c × (post b s .book ≡ holding b c) × (c .month ≡ m)
+unfolding post
+accepted-only b s m e = go (postOutcome b s) refl e
+  where
+    go : (o : Outcome Curve) → postOutcome b s ≡ o → booked b (withCurve b) (λ c. c .month) o .answer ≡ done m →
+        (c : Curve) × Accepted b s c × (booked b (withCurve b) (λ c. c .month) (postOutcome b s) .book ≡ holding b c) × (c .month ≡ m)
+    go (refused g) p a = absurd (refusal-kept a refl)
+    go (done c) p a = (c, was-accepted b s c p, rw p, cc a)
+
+pub demand-2 : (b : Book) → Demand2 b
+unfolding post
+demand-2 b =
+    record {
+      accepts = λ s c a. rw (accepts-it b s c a);
+      accepts-only = accepted-only b;
+      pages = λ c l e f h. page-of-book b c l e f h;
+    }

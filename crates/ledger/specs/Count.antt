@@ -1,0 +1,91 @@
+-- SPECIFICATION 8: the count, from what the calls bring alone. Whatever it needs of a sheet it reads from the bytes in its own words.
+use mathlib.Core.Bool.{Bool, true, false, cond, _&&_}
+use mathlib.Core.List.{List, [], _∷_, map}
+use Prim.Native.Nat.{ℕ, zero, suc, _+_, _*_}
+use lib.Dec.{leb}
+use lib.IntN.{ℤ, pos, _-ℤ_}
+use lib.ListN.{getD}
+use Rattle.method.specs.Grounds.{Outcome, refused, done}
+use Rattle.method.specs.Sheet.{Numbers}
+use Rattle.method.specs.Curve.{Curve, answer}
+use Rattle.ledger.specs.Calls.{Call, postOf, turnTo, asks}
+
+-- ---- a sheet's numbers by the offsets of their bytes, the high byte first
+
+abbrev pub byte2 : List ℕ → ℕ → ℕ
+byte2 s i = getD s i 0 * 256 + getD s (i + 1) 0
+
+abbrev pub byte4 : List ℕ → ℕ → ℕ
+byte4 s i = ((getD s i 0 * 256 + getD s (i + 1) 0) * 256 + getD s (i + 2) 0) * 256 + getD s (i + 3) 0
+
+abbrev pub monthOf : List ℕ → ℕ
+monthOf s = byte2 s 1
+
+abbrev pub limitOf : List ℕ → ℕ
+limitOf s = byte4 s 105
+
+-- from 32,768 on a rate is 65,536 less
+abbrev pub rateAt : List ℕ → ℕ → ℤ
+rateAt s i = pos (byte2 s i) -ℤ pos (cond (leb 32_768 (byte2 s i)) 65_536 0)
+
+-- so many offsets, d apart
+unfoldable pub offsets : ℕ → ℕ → ℕ → List ℕ
+offsets i d zero = []
+offsets i d (suc n) = i ∷ offsets (i + d) d n
+
+-- the month at byte 1; seventeen rates, four bytes apart from 5; five volumes, six apart from 73; the ultimate rate at 102
+unfoldable pub typed : List ℕ → Numbers
+typed s =
+    record {
+      month = monthOf s;
+      rates = map (rateAt s) (offsets 5 4 17);
+      volumes = map (byte4 s) (offsets 73 6 5);
+      ultimate = byte2 s 102;
+      limit = limitOf s;
+    }
+
+-- ---- a told month, at first 0, and the last accepted sheet, at first none
+
+pub data LastSheet : Type 0 where
+  unposted : LastSheet
+  posted : List ℕ → LastSheet
+
+pub record Count : Type 0 where
+  pub told : ℕ
+  pub sheet : LastSheet
+
+abbrev pub isDone : {A : Type 0} → Outcome A → Bool
+isDone (refused g) = false
+isDone (done a) = true
+
+-- none of 1 to 4 and 7 to 10 applies
+abbrev pub works : List ℕ → Bool
+works s = isDone (answer s)
+
+-- while there is no sheet 6 does not apply
+abbrev pub inOrder : LastSheet → ℕ → Bool
+inOrder unposted m = true
+inOrder (posted s) m = leb (monthOf s) m
+
+-- 5 with the count's told month, 6 with the month of its sheet
+unfoldable pub acceptsSheet : Count → List ℕ → Bool
+acceptsSheet c s = works s && (leb (monthOf s) (c .told) && inOrder (c .sheet) (monthOf s))
+
+unfoldable pub acceptsMonth : Count → ℕ → Bool
+acceptsMonth c m = leb m 2_399 && leb (c .told) m
+
+-- refused calls and questions change neither
+abbrev pub counted : Count → Call → Count
+counted c (postOf s) = cond (acceptsSheet c s) (record { told = c .told; sheet = posted s }) c
+counted c (turnTo m) = cond (acceptsMonth c m) (record { told = m; sheet = c .sheet }) c
+counted c (asks q) = c
+
+abbrev pub countFrom : Count → List Call → Count
+countFrom c [] = c
+countFrom c (d ∷ ds) = countFrom (counted c d) ds
+
+abbrev pub nothing : Count
+nothing = record { told = 0; sheet = unposted }
+
+abbrev pub count : List Call → Count
+count cs = countFrom nothing cs

@@ -1,0 +1,85 @@
+-- SPECIFICATION 8, demand 3: what a count tells of an answer. No book is named.
+use mathlib.Core.Path.{_≡_}
+use mathlib.Core.Logic.{_↔_}
+use mathlib.Core.List.{List}
+use Prim.Native.Nat.{ℕ, _+_, _*_, _-_, _≤_, _<_}
+use lib.IntN.{pos}
+use lib.ListN.{length, getD, drop}
+use Rattle.fraction.specs.Rounding.{Encloses}
+use Rattle.method.specs.Units.{Pair, pair}
+use Rattle.method.specs.Grounds.{Ground, yearOutside, noCurve, bufferTooShort, Outcome, refused, done}
+use Rattle.method.specs.Curve.{Curve, answer}
+use Rattle.method.specs.Enclosure.{lowOf, highOf}
+use Rattle.method.specs.True.{trueCurve, trueFactor}
+use Rattle.ledger.specs.Answers.{Finding, finding}
+use Rattle.ledger.specs.Book.{Paged}
+use Rattle.ledger.specs.Calls.{Question, lookAt, pageInto, AnswerTo}
+use Rattle.ledger.specs.Count.{LastSheet, unposted, posted, Count, monthOf, limitOf, typed}
+
+-- ---- a year's band
+
+-- of a sheet that works
+abbrev pub bandIn : Outcome Curve → ℕ → Pair
+bandIn (refused g) y = pair 0 0
+bandIn (done c) y = pair (lowOf c y) (highOf c y)
+
+abbrev pub bandOf : List ℕ → ℕ → Pair
+bandOf s y = bandIn (answer s) y
+
+-- within the limit of the sheet that was typed, and around its true factor of every order
+pub record Band (s : List ℕ) (y : ℕ) (p : Pair) : Type 0 where
+  pub ordered : p .low ≤ p .high
+  pub within-limit : p .high ≤ p .low + limitOf s
+  pub true-years : (n : ℕ) → length (trueCurve n (typed s)) ≡ 150
+  pub holds-true-factor : (n : ℕ) → Encloses (pos (p .low)) (pos (p .high)) (trueFactor n (typed s) y)
+
+-- ---- a look-up
+
+pub record Finds (c : Count) (s : List ℕ) (y : ℕ) (a : Outcome Finding) : Type 0 where
+  pub not-after-told : monthOf s ≤ c .told
+  pub found : a ≡ done (finding (bandOf s y .low) (bandOf s y .high) (monthOf s) (c .told - monthOf s))
+  pub band : Band s y (bandOf s y)
+
+pub record LookTells (c : Count) (y : ℕ) (a : Outcome Finding) : Type 0 where
+  pub outside : (1 ≤ y → y ≤ 150 → ⊥) → a ≡ refused yearOutside
+  -- no curve exactly when no post was accepted
+  pub none-found : 1 ≤ y → y ≤ 150 → (a ≡ refused noCurve) ↔ (c .sheet ≡ unposted)
+  -- otherwise the last accepted sheet's band, month and age
+  pub finds : (s : List ℕ) → c .sheet ≡ posted s → 1 ≤ y → y ≤ 150 → Finds c s y a
+
+-- ---- a page, as its reader finds it: record y starts at byte 5 + 10 × (y - 1), numbers have the high byte first
+
+abbrev pub read2 : List ℕ → ℕ → ℕ
+read2 l i = getD l i 0 * 256 + getD l (i + 1) 0
+
+abbrev pub read4 : List ℕ → ℕ → ℕ
+read4 l i = read2 l i * 65_536 + read2 l (i + 2)
+
+pub record PageRead (out : List ℕ) (month age : ℕ) (band : ℕ → Pair) : Type 0 where
+  pub mark : getD out 0 0 ≡ 0x48
+  pub month-read : read2 out 1 ≡ month
+  pub age-read : read2 out 3 ≡ age
+  pub year-mark : (y : ℕ) → 1 ≤ y → y ≤ 150 → getD out (5 + 10 * (y - 1)) 0 ≡ 0x59
+  pub year-read : (y : ℕ) → 1 ≤ y → y ≤ 150 → getD out (6 + 10 * (y - 1)) 0 ≡ y
+  pub low-read : (y : ℕ) → 1 ≤ y → y ≤ 150 → read4 out (7 + 10 * (y - 1)) ≡ band y .low
+  pub high-read : (y : ℕ) → 1 ≤ y → y ≤ 150 → read4 out (11 + 10 * (y - 1)) ≡ band y .high
+
+-- written whole into the buffer l, nothing past it touched
+pub record PageWritten (l : List ℕ) (month age : ℕ) (band : ℕ → Pair) (p : Paged) : Type 0 where
+  pub written : p .answer ≡ done tt
+  pub read : PageRead (p .buffer) month age band
+  pub same-length : length (p .buffer) ≡ length l
+  pub past-kept : drop 1_505 (p .buffer) ≡ drop 1_505 l
+
+pub record PageTells (c : Count) (l : List ℕ) (p : Paged) : Type 0 where
+  pub untouched : (g : Ground) → p .answer ≡ refused g → p .buffer ≡ l
+  pub none-found : (p .answer ≡ refused noCurve) ↔ (c .sheet ≡ unposted)
+  pub too-short : (s : List ℕ) → c .sheet ≡ posted s → length l < 1_505 → p .answer ≡ refused bufferTooShort
+  pub writes : (s : List ℕ) → c .sheet ≡ posted s → 1_505 ≤ length l → PageWritten l (monthOf s) (c .told - monthOf s) (bandOf s) p
+  pub bands : (s : List ℕ) → c .sheet ≡ posted s → (y : ℕ) → 1 ≤ y → y ≤ 150 → Band s y (bandOf s y)
+
+-- ---- any question
+
+abbrev pub Tells : Count → (q : Question) → AnswerTo q → Type 0
+Tells c (lookAt y) a = LookTells c y a
+Tells c (pageInto l) p = PageTells c l p
