@@ -1,2 +1,2 @@
-pub mod Posting
-pub mod Cases
+pub mod Overwriting
+pub mod Booking

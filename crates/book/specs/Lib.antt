@@ -1,1 +1,3 @@
-pub mod Answers
+pub mod Views
+pub mod Steps
+pub mod Written

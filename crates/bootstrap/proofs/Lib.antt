@@ -1,2 +1,5 @@
+pub mod Soundness
+pub mod Judged
+pub mod Inside
 pub mod Walking
 pub mod Order

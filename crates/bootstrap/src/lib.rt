@@ -1,61 +1,154 @@
-// The discount factors of years 1 to 50 from the quotes, or the first of grounds 7 to 9.
-
-use par::Pair;
-use trial::Gap;
-use years::QuotesAnswer;
-use years::Step;
-use years::Years;
+// The liquid part of a curve: the factors of years 1 to 50 from the quotes and the yearly factors of their gaps, or the first of
+// grounds 7 to 9.
+use gap::Gap;
+use grounds::Ground;
+use grounds::Verdict;
+use rounding::Pair;
 ghost use mathlib.Core.Path.{_≡_};
-ghost use mathlib.Core.Bool.{true};
-ghost use mathlib.Core.List.{[], _∷_, _++_};
 ghost use Prim.Native.Nat.{ℕ, _+_, _≤_, _<_};
 ghost use lib.IntN.{pos};
 ghost use lib.ListN.{getD};
-ghost use lib.Signed.{mag};
+ghost use lib.Signed.{mag, _≤ℤ_};
+ghost use Rattle.method.specs.Units.{pair};
 ghost use Rattle.method.specs.Sheet.{maturities};
-ghost use Rattle.method.specs.Quotes.{gapAfter, gapYears, parYear, yearsTo, quotesOf, bootstrap, upperEnd};
-ghost use Rattle.method.proofs.QuotesBounds.{Factor};
-ghost use Rattle.par.specs.Sides.{pairOf};
-ghost use Rattle.trial.specs.Gaps.{gapOf, GapFits};
-ghost use Rattle.years.specs.Years.{factorsOf, Sound, outcomeBy, isWorked};
-ghost use Rattle.bootstrap.specs.Walks.{gapFactors, yearlyOf, walkOf, GapsSound, WalkSound, Reaches, quote, startOf, quotesWith, outcomeOf, Ranges};
+ghost use Rattle.method.specs.Ranges.{Factor};
+ghost use Rattle.method.specs.Quotes.{nextYear, lastYear, gapAfter, gapYears, parYear, yearsTo, quotesOf, bootstrap, upperEnd};
+ghost use Rattle.rounding.specs.Pairs.{asPair};
+ghost use Rattle.grounds.specs.Verdicts.{asOutcome, resultOr};
+ghost use Rattle.gap.specs.Gaps.{asGap, GapFits};
+ghost use Rattle.bootstrap.specs.Liquids.{asBootstrap, asStep, nothing, withYear, withGap, lifted, insideAt, LiquidSound, Reaches, quote};
 
-// The low and the high yearly factor of each gap so far.
-struct Gaps {
-    lows: [u64; 7],
-    highs: [u64; 7],
-    count: usize,
-}
+// U of the definitions.
+const UNIT: u64 = 1_000_000_000;
 
-// The walk along the quotes so far.
-struct Walk {
-    years: Years,
-    gaps: Gaps,
-}
+const HIGHEST_FACTOR: i64 = 2_000_000_000;
 
-struct Walked {
-    answer: QuotesAnswer,
-    walk: Walk,
-}
+const QUOTES: usize = 17;
 
-// The factors of the fifty years and the yearly factors of the seven gaps, where the answer is `Worked`.
-pub struct Quotes {
-    pub answer: QuotesAnswer,
+// The first `count` factors, and A, their sum; the low and the high yearly factor of the first `gaps` gaps.
+pub struct Liquid {
     pub lows: [u64; 50],
     pub highs: [u64; 50],
+    pub count: usize,
+    pub annuity: Pair,
     pub xlows: [u64; 7],
     pub xhighs: [u64; 7],
+    pub gaps: usize,
+}
+
+// The part before the first quote where the verdict is a refusal.
+pub struct Bootstrapped {
+    pub verdict: Verdict,
+    pub liquid: Liquid,
+}
+
+// The part as far as it is worked.
+struct Step {
+    verdict: Verdict,
+    liquid: Liquid,
+}
+
+// Before the first quote.
+fn fresh() -> Liquid
+    ensures { λ r. ⌜ (asBootstrap r ≡ nothing) × LiquidSound r × (r .count ≡ 0) × (r .gaps ≡ 0) ⌝ }
+{
+    Liquid {
+        lows: [0; 50],
+        highs: [0; 50],
+        count: 0,
+        annuity: Pair { low: 0, high: 0 },
+        xlows: [0; 7],
+        xhighs: [0; 7],
+        gaps: 0,
+    }
+}
+
+// ---- the next year
+
+// One year more, and A with it.
+fn joined(w: Liquid, low: u64, high: u64) -> Liquid
+    requires { ⌜ LiquidSound w × (w .count < 50) × Factor (pair low high) ⌝ }
+    ensures { λ r. ⌜ (asBootstrap r ≡ withYear (asBootstrap w) (pair low high)) × LiquidSound r ⌝ }
+{
+    let n = w.count;
+    let annuity = Pair {
+        low: w.annuity.low + low,
+        high: w.annuity.high + high,
+    };
+    let mut next = w;
+    next.lows[n] = low;
+    next.highs[n] = high;
+    next.count = n + 1;
+    next.annuity = annuity;
+    next
+}
+
+// The next year's factor, judged: 7 before 8.
+fn next_year(w: Liquid, low: i64, high: i64) -> Step
+    requires { ⌜ LiquidSound w × (w .count < 50) × (low ≤ℤ high) ⌝ }
+    ensures { λ r. ⌜ (asStep r ≡ lifted (asBootstrap w) (nextYear (asBootstrap w .factors) low high)) × LiquidSound (r .liquid) ⌝ }
+{
+    let year = w.count as u64 + 1;
+    if low < 1 {
+        return Step {
+            verdict: Verdict::Refused(Ground::LowBelowOne(year)),
+            liquid: w,
+        };
+    }
+    if HIGHEST_FACTOR < high {
+        return Step {
+            verdict: Verdict::Refused(Ground::HighAboveLimit(year)),
+            liquid: w,
+        };
+    }
+    Step {
+        verdict: Verdict::Passed,
+        liquid: joined(w, low as u64, high as u64),
+    }
+}
+
+// The next year by par.
+fn par_year(w: Liquid, rate: i64) -> Step
+    requires { ⌜ LiquidSound w × (w .count < 50) × (mag rate ≤ 12_000) ⌝ }
+    ensures { λ r. ⌜ (asStep r ≡ parYear rate (asBootstrap w)) × LiquidSound (r .liquid) ⌝ }
+{
+    let annuity = w.annuity;
+    next_year(
+        w,
+        gap::par_factor(rate, annuity, false),
+        gap::par_factor(rate, annuity, true),
+    )
 }
 
 // ---- a gap
 
-// A gap's rate and years with what stands before it.
-fn gap_after(y: Years, k: u64, rate: i64) -> Gap
-    requires { ⌜ Sound y × (k ≤ 10) × (mag rate ≤ 12_000) ⌝ }
-    ensures { λ r. ⌜ (gapOf r ≡ gapAfter (factorsOf y) k rate) × GapFits r × Factor (pairOf (r .start)) ⌝ }
+// The factor before a gap, 1 where there is none.
+fn last_year(w: Liquid) -> Pair
+    requires { ⌜ LiquidSound w ⌝ }
+    ensures { λ r. ⌜ asPair r ≡ lastYear (asBootstrap w .factors) ⌝ }
 {
-    let annuity = y.annuity;
-    let start = years::last_year(y);
+    let n = w.count;
+    if n == 0 {
+        return Pair {
+            low: UNIT,
+            high: UNIT,
+        };
+    }
+    let lows = w.lows;
+    let highs = w.highs;
+    Pair {
+        low: lows[n - 1],
+        high: highs[n - 1],
+    }
+}
+
+// A gap's rate and years with what stands before it.
+fn gap_after(w: Liquid, k: u64, rate: i64) -> Gap
+    requires { ⌜ LiquidSound w × (k ≤ 10) × (mag rate ≤ 12_000) ⌝ }
+    ensures { λ r. ⌜ (asGap r ≡ gapAfter (asBootstrap w .factors) k rate) × GapFits r × Factor (asPair (r .start)) ⌝ }
+{
+    let annuity = w.annuity;
+    let start = last_year(w);
     Gap {
         rate: rate,
         years: k,
@@ -64,100 +157,83 @@ fn gap_after(y: Years, k: u64, rate: i64) -> Gap
     }
 }
 
-// The years of a gap at its yearly factor, the last by par.
-fn gap_factors(y: Years, g: Gap, x: Pair) -> Step
-    requires { ⌜ Sound y × GapFits g × (0 < g .years) × (y .count + g .years ≤ 50) × Factor (pairOf (g .start)) × (x .low ≤ x .high) × (x .high ≤ upperEnd) ⌝ }
-    ensures { λ r. ⌜ (outcomeBy (r .answer) (factorsOf (r .years)) ≡ gapFactors (gapOf g) (pairOf x) (factorsOf y)) × Sound (r .years) ⌝ }
+// The n years from a factor at a yearly factor, lows down and highs up, each judged in turn.
+fn inside_years(w: Liquid, from: Pair, x: Pair, n: u64) -> Step
+    requires { ⌜ LiquidSound w × (w .count + n ≤ 50) × Factor (asPair from) × (x .low ≤ x .high) × (x .high ≤ upperEnd) ⌝ }
+    ensures { λ r. ⌜ (asStep r ≡ lifted (asBootstrap w) (insideAt (asPair from) (asPair x) n (asBootstrap w .factors))) × LiquidSound (r .liquid) ⌝ }
 {
-    let start = g.start;
-    let inside = years::inside_years(y, start, x, g.years - 1);
-    let answer = inside.answer;
-    let years = inside.years;
-    if years::worked(answer) {
-        years::quoted_year(years, g.rate)
-    } else {
-        Step {
-            answer: answer,
-            years: years,
-        }
+    let mut liquid = w;
+    let mut low = from.low;
+    let mut high = from.high;
+    let mut left = n;
+    while 0 < left {
+        low = rounding::scale(low, x.low, false);
+        high = rounding::scale(high, x.high, true);
+        let step = next_year(liquid, low as i64, high as i64);
+        let verdict = step.verdict;
+        liquid = step.liquid;
+        let Verdict::Passed = verdict else {
+            return Step {
+                verdict: verdict,
+                liquid: liquid,
+            };
+        };
+        left = left - 1;
+    }
+    Step {
+        verdict: Verdict::Passed,
+        liquid: liquid,
     }
 }
 
 // One gap more.
-fn joined_gap(g: Gaps, x: Pair) -> Gaps
-    requires { ⌜ GapsSound g × (g .count < 7) ⌝ }
-    ensures { λ r. ⌜ (yearlyOf r ≡ yearlyOf g ++ pairOf x ∷ []) × GapsSound r ⌝ }
+fn joined_gap(w: Liquid, x: Pair) -> Liquid
+    requires { ⌜ LiquidSound w × (w .gaps < 7) ⌝ }
+    ensures { λ r. ⌜ (asBootstrap r ≡ withGap (asBootstrap w) (asPair x)) × LiquidSound r × (r .count ≡ w .count) ⌝ }
 {
-    let n = g.count;
-    let mut lows = g.lows;
-    let mut highs = g.highs;
-    lows[n] = x.low;
-    highs[n] = x.high;
-    Gaps {
-        lows: lows,
-        highs: highs,
-        count: n + 1,
-    }
+    let n = w.gaps;
+    let mut next = w;
+    next.xlows[n] = x.low;
+    next.xhighs[n] = x.high;
+    next.gaps = n + 1;
+    next
 }
 
-// 9 first, then the gap's years.
-fn gap_years(w: Walk, k: u64, rate: i64) -> Walked
-    requires { ⌜ WalkSound w × (0 < k) × (k ≤ 10) × (w .years .count + k ≤ 50) × (w .gaps .count < 7) × (mag rate ≤ 12_000) ⌝ }
-    ensures { λ r. ⌜ (outcomeBy (r .answer) (walkOf (r .walk)) ≡ gapYears k rate (walkOf w)) × WalkSound (r .walk) ⌝ }
+// 9 first, then the gap's years, the last by par.
+fn gap_years(w: Liquid, k: u64, rate: i64) -> Step
+    requires { ⌜ LiquidSound w × (0 < k) × (k ≤ 10) × (w .count + k ≤ 50) × (w .gaps < 7) × (mag rate ≤ 12_000) ⌝ }
+    ensures { λ r. ⌜ (asStep r ≡ gapYears k rate (asBootstrap w)) × LiquidSound (r .liquid) ⌝ }
 {
-    let years = w.years;
-    let gaps = w.gaps;
-    let g = gap_after(years, k, rate);
-    if trial::ends_pass(g) {
-        let x = trial::yearly_factor(g);
-        let step = gap_factors(years, g, x);
-        let answer = step.answer;
-        let next = step.years;
-        let wider = joined_gap(gaps, x);
-        Walked {
-            answer: answer,
-            walk: Walk {
-                years: next,
-                gaps: wider,
-            },
-        }
-    } else {
-        let last = years.count as u64 + k;
-        Walked {
-            answer: QuotesAnswer::EndFailsTest(last),
-            walk: w,
-        }
+    let g = gap_after(w, k, rate);
+    if !gap::ends_pass(g) {
+        let last = w.count as u64 + k;
+        return Step {
+            verdict: Verdict::Refused(Ground::EndFailsTest(last)),
+            liquid: w,
+        };
     }
+    let x = gap::yearly_factor(g);
+    let start = g.start;
+    let inside = inside_years(joined_gap(w, x), start, x, k - 1);
+    let verdict = inside.verdict;
+    let within = inside.liquid;
+    let Verdict::Passed = verdict else {
+        return Step {
+            verdict: verdict,
+            liquid: within,
+        };
+    };
+    par_year(within, rate)
 }
 
 // ---- the quotes in order
 
-// The next year by par.
-fn par_year(w: Walk, rate: i64) -> Walked
-    requires { ⌜ WalkSound w × (w .years .count < 50) × (mag rate ≤ 12_000) ⌝ }
-    ensures { λ r. ⌜ (outcomeBy (r .answer) (walkOf (r .walk)) ≡ parYear rate (walkOf w)) × WalkSound (r .walk) ⌝ }
-{
-    let years = w.years;
-    let gaps = w.gaps;
-    let step = years::quoted_year(years, rate);
-    let answer = step.answer;
-    let next = step.years;
-    Walked {
-        answer: answer,
-        walk: Walk {
-            years: next,
-            gaps: gaps,
-        },
-    }
-}
-
 // The years to a quote's maturity: the next one by par, or a gap.
-fn years_to(w: Walk, maturity: u64, rate: i64) -> Walked
-    requires { ⌜ WalkSound w × Reaches w maturity × (mag rate ≤ 12_000) ⌝ }
-    ensures { λ r. ⌜ (outcomeBy (r .answer) (walkOf (r .walk)) ≡ yearsTo (quote maturity rate) (walkOf w)) × WalkSound (r .walk) ⌝ }
+fn years_to(w: Liquid, maturity: u64, rate: i64) -> Step
+    requires { ⌜ LiquidSound w × Reaches w maturity × (mag rate ≤ 12_000) ⌝ }
+    ensures { λ r. ⌜ (asStep r ≡ yearsTo (quote maturity rate) (asBootstrap w)) × LiquidSound (r .liquid) ⌝ }
 {
-    let years = w.years;
-    let k = maturity - years.count as u64;
+    let k = maturity - w.count as u64;
     if k == 1 {
         par_year(w, rate)
     } else {
@@ -165,59 +241,29 @@ fn years_to(w: Walk, maturity: u64, rate: i64) -> Walked
     }
 }
 
-// Before the first quote.
-fn fresh() -> Walk
-    ensures { λ r. ⌜ (walkOf r ≡ startOf) × WalkSound r × (r .years .count ≡ 0) × (r .gaps .count ≡ 0) ⌝ }
-{
-    Walk {
-        years: Years {
-            lows: [0; 50],
-            highs: [0; 50],
-            count: 0,
-            annuity: Pair { low: 0, high: 0 },
-        },
-        gaps: Gaps {
-            lows: [0; 7],
-            highs: [0; 7],
-            count: 0,
-        },
-    }
-}
-
-fn answered(answer: QuotesAnswer, w: Walk) -> Quotes
-    ensures { λ r. ⌜ r ≡ quotesWith answer w ⌝ }
-{
-    let years = w.years;
-    let gaps = w.gaps;
-    let lows = years.lows;
-    let highs = years.highs;
-    let xlows = gaps.lows;
-    let xhighs = gaps.highs;
-    Quotes {
-        answer: answer,
-        lows: lows,
-        highs: highs,
-        xlows: xlows,
-        xhighs: xhighs,
-    }
-}
-
 // The quotes in the order of their maturities, up to the first ground that applies.
-pub fn bootstrap(rates: [i16; 17]) -> Quotes
+pub fn bootstrap(rates: [i16; 17]) -> Bootstrapped
     requires { ⌜ ((k : ℕ) → mag (getD rates k (pos 0)) ≤ 12_000) ⌝ }
-    ensures { λ r. ⌜ (outcomeOf r ≡ bootstrap (quotesOf maturities rates)) × (isWorked (r .answer) ≡ true → Ranges r) ⌝ }
+    ensures outcome { λ r. ⌜ asOutcome (r .verdict) (asBootstrap (r .liquid)) ≡ bootstrap (quotesOf maturities rates) ⌝ }
+    ensures beside { λ r. ⌜ asBootstrap (r .liquid) ≡ resultOr nothing (bootstrap (quotesOf maturities rates)) ⌝ }
+    ensures sound { λ r. ⌜ LiquidSound (r .liquid) ⌝ }
 {
-    let mut walk = fresh();
+    let mut liquid = fresh();
     let mut i: usize = 0;
-    while i < 17 {
-        let step = years_to(walk, sheet::maturity(i), rates[i] as i64);
-        let answer = step.answer;
-        let next = step.walk;
-        if !years::worked(answer) {
-            return answered(answer, next);
-        }
-        walk = next;
+    while i < QUOTES {
+        let step = years_to(liquid, sheet::maturity(i), rates[i] as i64);
+        let verdict = step.verdict;
+        liquid = step.liquid;
+        let Verdict::Passed = verdict else {
+            return Bootstrapped {
+                verdict: verdict,
+                liquid: fresh(),
+            };
+        };
         i = i + 1;
     }
-    answered(QuotesAnswer::Worked, walk)
+    Bootstrapped {
+        verdict: Verdict::Passed,
+        liquid: liquid,
+    }
 }

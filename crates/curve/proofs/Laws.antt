@@ -2,19 +2,17 @@
 use mathlib.Core.Path.{_≡_, refl, ap, sym, _∙_}
 use mathlib.Core.List.{List, _++_, map}
 use Prim.Native.Nat.{ℕ, _≤_}
-use native.Mathlib.Omega.{arith}
 use lib.Dec.{eqb}
 use lib.ListN.{length, take, drop, take-append-drop}
 use borrow.Author.Tests.{eq-eqb, ne-eqb}
-use Rattle.method.specs.Units.{Pair, pair}
+use Rattle.method.specs.Units.{Pair, pair, pairsOf}
 use Rattle.method.specs.Grounds.{Ground, bandTooWide, Outcome, refused, done, _>>=_, demand}
-use Rattle.method.specs.Sheet.{Numbers, maturities, readSheet}
+use Rattle.method.specs.Sheet.{Numbers, maturities}
 use Rattle.method.specs.Quotes.{Bootstrap, bootstrap, quotesOf}
 use Rattle.method.specs.Extrapolation.{firstTooWide}
-use Rattle.method.specs.Curve.{Curve, smoothingYear, curveOf, answer}
-use Rattle.extrapolation.specs.Extrapolated.{pairsOf}
-use Rattle.extrapolation.proofs.Arrays.{zip-left, zip-right}
-use Rattle.curve.specs.Years.{laterYears, banded}
+use Rattle.method.specs.Curve.{Curve, smoothingYear, curveOf}
+use Rattle.method.proofs.Zips.{zip-left, zip-right}
+use Rattle.curve.specs.Curves.{laterYears, banded}
 
 -- the curve of two arrays, under a sheet's month and limit
 abbrev pub curveWith : Numbers → List ℕ → List ℕ → Curve
@@ -48,15 +46,6 @@ module _ (n : Numbers) where
         laterYears n b ≡ done (drop smoothingYear (pairsOf lows highs)) → curveOf n ≡ banded (curveWith n lows highs)
     unfolding curveOf
     years-banded lows highs same quoted later =
-        rw (d, later, ← quoted, take-append-drop smoothingYear (pairsOf lows highs), zip-left pair (λ p. p .low) (λ l h. refl) lows highs same, zip-right pair (λ p. p .high) (λ l h. refl) lows highs same)
-
--- ---- grounds 1 to 4 before them
-
-module _ (bytes : List ℕ) where
-  pub answer-read : {n : Numbers} → readSheet bytes ≡ done n → answer bytes ≡ curveOf n
-  unfolding answer
-  answer-read e = rw e
-
-  pub answer-refused : {g : Ground} → readSheet bytes ≡ refused g → answer bytes ≡ refused g
-  unfolding answer
-  answer-refused e = rw e
+        let first = zip-left pair (λ p. p .low) (λ l h. refl) lows highs same in
+        let second = zip-right pair (λ p. p .high) (λ l h. refl) lows highs same in
+        rw (d, later, ← quoted, take-append-drop smoothingYear (pairsOf lows highs), first, second)

@@ -6,10 +6,9 @@ use native.Mathlib.Numerals.{add-one}
 use lib.ListN.{length, drop, getD, drop-of-length-le}
 use lib.Seq.{drop-cons}
 use borrow.Author.Tests.{le-leb, lt-leb}
-use Rattle.method.specs.Units.{pair}
 use Rattle.method.specs.Extrapolation.{firstTooWide}
-use Rattle.extrapolation.specs.Extrapolated.{pairsOf}
-use Rattle.extrapolation.proofs.Arrays.{zip-at, zip-length}
+use Rattle.method.specs.Units.{pair, pairsOf}
+use Rattle.method.proofs.Zips.{zip-at, zip-length}
 
 module _ (limit : ℕ) (lows highs : List ℕ) where
   abbrev pub wideFrom : ℕ → ℕ

@@ -5,14 +5,14 @@ use Prim.Native.Nat.{ℕ, zero, suc, _+_, _≤_, _<_}
 use native.Mathlib.Omega.{arith}
 use lib.IntN.{ℤ, pos, natAbs}
 use lib.ListN.{length, getD, take, set, replicate, length-set, length-map, List·getD-map}
-use Rattle.method.specs.Units.{pair, signedPair}
+use Rattle.method.specs.Units.{pair, signedPair, pairsOf}
+use Rattle.method.specs.Ranges.{forwardBound}
 use Rattle.method.specs.Series.{gapForward}
-use Rattle.series.specs.Series.{forwardOf, forwardBound, Bounded}
-use Rattle.series.specs.declared.Forward.{Forward}
-use Rattle.series.proofs.Forwards.{read, read-bound}
-use Rattle.extrapolation.specs.Extrapolated.{pairsOf, AllBounded}
-use Rattle.extrapolation.proofs.Machine.{stored}
-use Rattle.extrapolation.proofs.Arrays.{zip-set, zip-length, zip-at, front-more, front-all, all-set}
+use Rattle.method.proofs.Zips.{zip-set, zip-length, zip-at, front-more, front-all, all-set}
+use Rattle.rounding.specs.Pairs.{asSignedPair, SizeAtMost}
+use Rattle.rounding.specs.declared.SignedPair.{SignedPair}
+use Rattle.rounding.proofs.Machine.{stored, stored-is, stored-size}
+use Rattle.extrapolation.specs.Extrapolated.{ForwardSizes}
 
 pub record Filled (lows highs : List ℕ) (from to : List ℤ) (i : ℕ) : Type 0 where
   pub turns : i ≤ 5
@@ -20,7 +20,7 @@ pub record Filled (lows highs : List ℕ) (from to : List ℤ) (i : ℕ) : Type 
   pub highs-length : length highs ≡ 5
   pub from-length : length from ≡ 5
   pub to-length : length to ≡ 5
-  pub bounded : AllBounded (record { lows = from; highs = to })
+  pub sizes : ForwardSizes (record { lows = from; highs = to })
   pub front : take i (zipWith signedPair from to) ≡ take i (map gapForward (pairsOf lows highs))
 
 replicated : {A : Type 0} (a : A) (n j : ℕ) → getD (replicate n a) j a ≡ a
@@ -37,7 +37,7 @@ no-gap hl hh =
       highs-length = hh;
       from-length = refl;
       to-length = refl;
-      bounded = record { lows-bound = zeros; highs-bound = zeros };
+      sizes = record { low-sizes = zeros; high-sizes = zeros };
       front = refl;
     }
 
@@ -51,24 +51,27 @@ module _ {lows highs : List ℕ} {from to : List ℤ} {i : ℕ} (d : Filled lows
   gap-at : getD (map gapForward (pairsOf lows highs)) i (gapForward (pair 0 0)) ≡ gapForward (pair (getD lows i 0) (getD highs i 0))
   gap-at = List·getD-map gapForward (pairsOf lows highs) i (pair 0 0) ∙ ap gapForward (zip-at pair lows highs i 0 0 (omega arith))
 
-  pub after-gap : (f : Forward) → i < 5 → forwardOf f ≡ gapForward (pair (getD lows i 0) (getD highs i 0)) → Bounded f →
+  pub after-gap : (f : SignedPair) → i < 5 → asSignedPair f ≡ gapForward (pair (getD lows i 0) (getD highs i 0)) → SizeAtMost forwardBound f →
       Filled lows highs (set from i (stored (f .low))) (set to i (stored (f .high))) (i + 1)
   after-gap f h e b =
-      let is : signedPair (stored (f .low)) (stored (f .high)) ≡ gapForward (pair (getD lows i 0) (getD highs i 0)) = rw (read (f .low) (b .low-bound), read (f .high) (b .high-bound)) e in
+      let low = stored-is (f .low) (b .low-size) tt in
+      let high = stored-is (f .high) (b .high-size) tt in
+      let small : ℤ → Type 0 = λ z. natAbs z ≤ forwardBound in
       record {
         turns = omega arith;
         lows-length = d .lows-length;
         highs-length = d .highs-length;
         from-length = simp length-set (d .from-length);
         to-length = simp length-set (d .to-length);
-        bounded =
+        sizes =
             record {
-              lows-bound = all-set (λ (z : ℤ). natAbs z ≤ forwardBound) (pos 0) from i (d .bounded .lows-bound) (read-bound (f .low) (b .low-bound));
-              highs-bound = all-set (λ (z : ℤ). natAbs z ≤ forwardBound) (pos 0) to i (d .bounded .highs-bound) (read-bound (f .high) (b .high-bound));
+              low-sizes = all-set small (pos 0) from i (d .sizes .low-sizes) (stored-size (f .low) (b .low-size) tt);
+              high-sizes = all-set small (pos 0) to i (d .sizes .high-sizes) (stored-size (f .high) (b .high-size) tt);
             };
         front =
-            rw (zip-set signedPair from to i (stored (f .low)) (stored (f .high)))
-            (front-more (gapForward (pair 0 0)) (zipWith signedPair from to) (map gapForward (pairsOf lows highs)) i (rw forwards-length h) (rw gaps-length h) (is ∙ sym gap-at) (d .front));
+            rw (low, high, zip-set signedPair from to i (f .low) (f .high))
+            (front-more (gapForward (pair 0 0)) (zipWith signedPair from to) (map gapForward (pairsOf lows highs)) i
+            (rw forwards-length h) (rw gaps-length h) (e ∙ sym gap-at) (d .front));
       }
 
   pub all-gaps : 5 ≤ i → zipWith signedPair from to ≡ map gapForward (pairsOf lows highs)

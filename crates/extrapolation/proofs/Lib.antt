@@ -1,6 +1,4 @@
-pub mod Machine
-pub mod Arrays
 pub mod Forwarding
-pub mod Gaps
 pub mod Stepping
-pub mod Years
+pub mod Gaps
+pub mod LaterYears

@@ -2,83 +2,87 @@
 use mathlib.Core.Path.{_≡_}
 use mathlib.Core.Bool.{Bool, true, false}
 use mathlib.Core.List.{List, zipWith}
-use Prim.Native.Nat.{ℕ, _≤_, _<_}
+use Prim.Native.Nat.{ℕ, suc, _+_, _≤_, _<_}
 use lib.IntN.{ℤ, pos, natAbs}
 use lib.ListN.{getD, take, drop}
 use lib.Signed.{_≤ℤ_}
-use Rattle.fraction.specs.Rounding.{floor, ceiling}
-use Rattle.method.specs.Units.{Pair, pair, SignedPair, signedPair}
-use Rattle.method.specs.Grounds.{highAboveLimit, Outcome, refused, done}
-use Rattle.method.specs.Quotes.{lowerEnd, upperEnd, highestFactor}
-use Rattle.method.specs.Extrapolation.{smaller, larger}
-use Rattle.series.specs.Series.{forwardBound, Bounded}
-use Rattle.series.specs.declared.Forward.{Forward}
+use Rattle.fraction.specs.Fraction.{natℚ, _≤ℚ_, _<ℚ_, _*ℚ_}
+use Rattle.fraction.specs.Rounding.{U}
+use Rattle.method.specs.Units as method
+use Rattle.method.specs.Units.{pair, signedPair, pairsOf}
+use Rattle.method.specs.Grounds.{Outcome}
+use Rattle.method.specs.Quotes.{highestFactor}
+use Rattle.method.specs.Ranges.{forwardBound}
+use Rattle.method.specs.Table.{table}
+use Rattle.method.specs.Extrapolation.{smaller, larger, stepLow, stepHigh}
+use Rattle.method.specs.True.{billion, convergence}
+use Rattle.rounding.specs.Pairs.{SizeAtMost}
+use Rattle.rounding.specs.declared.SignedPair.{SignedPair}
+use Rattle.grounds.specs.Verdicts.{asOutcome}
+use Rattle.grounds.specs.declared.Ground.{Ground}
+use Rattle.grounds.specs.declared.Verdict.the-variants.{Passed, Refused}
 use Rattle.extrapolation.specs.declared.Forwards.{Forwards}
-use Rattle.extrapolation.specs.declared.Factor.{Factor}
-use Rattle.extrapolation.specs.declared.Later.{Later}
-use Rattle.extrapolation.specs.declared.LaterAnswer.{LaterAnswer}
-use Rattle.extrapolation.specs.declared.LaterAnswer.the-variants.{Worked, HighAboveLimit}
+use Rattle.extrapolation.specs.declared.Years.{Years}
+use Rattle.extrapolation.specs.declared.Extended.{Extended}
 
--- ---- an end of a forward: the high with `true`, the low with `false`
+-- ---- the declared types, as the definitions have them
 
--- the quotient, rounded up or down
-abbrev pub roundBy : Bool → ℤ → ℕ → ℤ
-roundBy true = ceiling
-roundBy false = floor
+abbrev pub asForwards : Forwards → List method.SignedPair
+asForwards g = zipWith signedPair (g .lows) (g .highs)
+
+abbrev pub asYears : Years → List method.Pair
+asYears y = pairsOf (y .lows) (y .highs)
+
+-- entries 20 to 149 are the years 21 to 150
+abbrev pub asLater : Extended → Outcome (List method.Pair)
+asLater r = asOutcome (r .verdict) (drop 20 (asYears (r .years)))
+
+abbrev pub factorAt : Years → ℕ → method.Pair
+factorAt y i = pair (getD (y .lows) i 0) (getD (y .highs) i 0)
+
+-- ---- an end by its side: the high with `true`, the low with `false`
 
 -- the larger of two, or the smaller
 abbrev pub outer : Bool → ℤ → ℤ → ℤ
 outer true = larger
 outer false = smaller
 
--- ---- the declared types, as the definitions have them
+abbrev pub stepBy : Bool → ℤ → ℕ → ℕ
+stepBy true = stepHigh
+stepBy false = stepLow
 
-abbrev pub forwardsOf : Forwards → List SignedPair
-forwardsOf g = zipWith signedPair (g .lows) (g .highs)
+-- ---- the table
 
-abbrev pub factorOf : Factor → Pair
-factorOf p = pair (p .low) (p .high)
-
-abbrev pub pairsOf : List ℕ → List ℕ → List Pair
-pairsOf lows highs = zipWith pair lows highs
-
-abbrev pub outcomeFor : LaterAnswer → List Pair → Outcome (List Pair)
-outcomeFor Worked later = done later
-outcomeFor (HighAboveLimit year) later = refused (highAboveLimit year)
-
--- entries 20 to 149 are the years 21 to 150
-abbrev pub outcomeOf : Later → Outcome (List Pair)
-outcomeOf r = outcomeFor (r .answer) (drop 20 (pairsOf (r .lows) (r .highs)))
+-- r is the table's entry, below U, and at every order the whole part of U × k(i + 1)
+pub record Weight (i r : ℕ) : Type 0 where
+  pub tabled : r ≡ getD table i 0
+  pub below-U : r + 1 ≤ U
+  pub whole-part : (n : ℕ) → (natℚ r ≤ℚ billion *ℚ convergence n (suc i)) × (billion *ℚ convergence n (suc i) <ℚ natℚ (r + 1))
 
 -- ---- ranges
-
--- a yearly factor that a gap can have
-pub record YearlyFactor (x : ℕ) : Type 0 where
-  pub from-lower : lowerEnd ≤ x
-  pub to-upper : x ≤ upperEnd
-
--- both ends at every index; past the end stands 0
-pub record AllBounded (g : Forwards) : Type 0 where
-  pub lows-bound : (i : ℕ) → natAbs (getD (g .lows) i (pos 0)) ≤ forwardBound
-  pub highs-bound : (i : ℕ) → natAbs (getD (g .highs) i (pos 0)) ≤ forwardBound
 
 -- SPECIFICATION 2: a traded volume's range
 abbrev pub volumeBound : ℕ
 volumeBound = 1_000_000
 
--- a factor at an index
-pub record InRange (lows highs : List ℕ) (i : ℕ) : Type 0 where
-  pub ordered : getD lows i 0 ≤ getD highs i 0
-  pub at-most : getD highs i 0 ≤ highestFactor
+-- at every index; past the end stands 0
+pub record ForwardSizes (g : Forwards) : Type 0 where
+  pub low-sizes : (i : ℕ) → natAbs (getD (g .lows) i (pos 0)) ≤ forwardBound
+  pub high-sizes : (i : ℕ) → natAbs (getD (g .highs) i (pos 0)) ≤ forwardBound
+
+-- a factor that passes ground 8; an extrapolated low may be 0
+pub record InRange (p : method.Pair) : Type 0 where
+  pub ordered : p .low ≤ p .high
+  pub at-most : p .high ≤ highestFactor
 
 -- a forward that the years' steps take: its low is at most its high, so that no low outgrows the limit on highs
-pub record Usable (f : Forward) : Type 0 where
-  pub bounded : Bounded f
+pub record Usable (f : SignedPair) : Type 0 where
+  pub size : SizeAtMost forwardBound f
   pub ordered : f .low ≤ℤ f .high
 
--- the arrays of the result: the years to 20 as they came, the worked ones in range; both as they came where a year was refused
-pub record Kept (lows highs : List ℕ) (r : Later) : Type 0 where
-  pub quoted-lows : take 20 (r .lows) ≡ take 20 lows
-  pub quoted-highs : take 20 (r .highs) ≡ take 20 highs
-  pub worked-in-range : r .answer ≡ Worked → (i : ℕ) → 20 ≤ i → i < 150 → InRange (r .lows) (r .highs) i
-  pub refused-as-came : (year : ℕ) → r .answer ≡ HighAboveLimit year → (r .lows ≡ lows) × (r .highs ≡ highs)
+-- beside the outcome: the years to 20 as they came, the worked ones in range; all as they came where a year was refused
+pub record Kept (years : Years) (r : Extended) : Type 0 where
+  pub quoted-lows : take 20 (r .years .lows) ≡ take 20 (years .lows)
+  pub quoted-highs : take 20 (r .years .highs) ≡ take 20 (years .highs)
+  pub worked-in-range : r .verdict ≡ Passed → (i : ℕ) → 20 ≤ i → i < 150 → InRange (factorAt (r .years) i)
+  pub refused-as-came : (g : Ground) → r .verdict ≡ Refused g → r .years ≡ years

@@ -1,20 +1,25 @@
-// The extrapolated years 21 to 150, equal to the definitions of the crate method.
-use series::Forward;
+// The extrapolated years 21 to 150, equal to the definitions of the crate method (SPECIFICATION 5). Each function that takes `up`
+// works a high with it, and a low without.
+use grounds::Ground;
+use grounds::Verdict;
+use rounding::Pair;
+use rounding::SignedPair;
 ghost use mathlib.Core.Path.{_≡_};
 ghost use mathlib.Core.List.{map};
-ghost use Prim.Native.Nat.{ℕ, _+_, _-_, _*_, _≤_, _<_};
+ghost use Prim.Native.Nat.{ℕ, _+_, _*_, _≤_, _<_};
 ghost use lib.IntN.{pos, natAbs, _*ℤ_};
 ghost use lib.ListN.{getD};
-ghost use lib.Signed.{_<ℤ_};
-ghost use Rattle.fraction.specs.Rounding.{U};
-ghost use Rattle.method.specs.Units.{pair};
+ghost use Rattle.fraction.specs.Rounding.{U, roundℤ};
+ghost use Rattle.method.specs.Units.{pair, pairsOf};
 ghost use Rattle.method.specs.Quotes.{highestFactor};
+ghost use Rattle.method.specs.Ranges.{forwardBound, YearlyFactor};
 ghost use Rattle.method.specs.Sheet.{total};
 ghost use Rattle.method.specs.Series.{gapForward};
 ghost use Rattle.method.specs.Table.{table};
-ghost use Rattle.method.specs.Extrapolation.{llfrNumerator, llfr, blend, forward, stepLow, stepHigh, step, extrapolate, κPairs};
-ghost use Rattle.series.specs.Series.{forwardOf, forwardBound, Bounded};
-ghost use Rattle.extrapolation.specs.Extrapolated.{roundBy, outer, forwardsOf, factorOf, pairsOf, outcomeOf, YearlyFactor, AllBounded, volumeBound, InRange, Usable, Kept};
+ghost use Rattle.method.specs.Extrapolation.{llfrNumerator, llfr, blend, forward, step, extrapolate, κPairs};
+ghost use Rattle.rounding.specs.Pairs.{asPair, asSignedPair, PairAtMost, SizeAtMost};
+ghost use Rattle.extrapolation.specs.Extrapolated.{asForwards, asLater, factorAt, outer, stepBy};
+ghost use Rattle.extrapolation.specs.Extrapolated.{Weight, volumeBound, ForwardSizes, InRange, Usable, Kept};
 
 // U of the definitions.
 const UNIT: u64 = 1_000_000_000;
@@ -27,7 +32,7 @@ const HIGHEST_FACTOR: u64 = 2_000_000_000;
 // Years 21 to 150.
 const LATER_YEARS: usize = 130;
 
-// K(h) of the definitions' table, h from 1 to 130, at index h - 1.
+// K(h) of SPECIFICATION 5.2, h from 1 to 130, at index h - 1.
 const K: [u64; 130] = [
     951625819,
     861066649,
@@ -161,23 +166,12 @@ const K: [u64; 130] = [
     2377,
 ];
 
-pub fn k_at(i: usize) -> u64
-    requires { ⌜ i < 130 ⌝ }
-    ensures { λ r. ⌜ (r ≡ getD table i 0) × (r + 1 ≤ U) ⌝ }
+// Each at every order the whole part of U × k(h), the exponential rule; K + 1 is the weight's other end. By value, because an index into
+// the constant builds it anew at every read.
+pub fn weights() -> [u64; 130]
+    ensures { λ r. ⌜ ((i : ℕ) → i < 130 → Weight i (getD r i 0)) ⌝ }
 {
-    K[i]
-}
-
-// Rounded up or down. Each function below that takes `up` works a high with it, and a low without.
-fn quotient(a: i64, b: i64, up: bool) -> i64
-    requires { ⌜ pos 0 <ℤ b ⌝ }
-    ensures { λ r. ⌜ r ≡ roundBy up a (natAbs b) ⌝ }
-{
-    if up {
-        rounding::ceil_div(a, b)
-    } else {
-        rounding::floor_div(a, b)
-    }
+    K
 }
 
 // The forwards of five gaps.
@@ -188,13 +182,17 @@ pub struct Forwards {
 
 // From the low and high x of each gap.
 pub fn gap_forwards(lows: [u64; 5], highs: [u64; 5]) -> Forwards
-    requires { ⌜ ((i : ℕ) → i < 5 → YearlyFactor (getD lows i 0) × YearlyFactor (getD highs i 0)) ⌝ }
-    ensures { λ r. ⌜ (forwardsOf r ≡ map gapForward (pairsOf lows highs)) × AllBounded r ⌝ }
+    requires { ⌜ ((i : ℕ) → i < 5 → YearlyFactor (pair (getD lows i 0) (getD highs i 0))) ⌝ }
+    ensures { λ r. ⌜ (asForwards r ≡ map gapForward (pairsOf lows highs)) × ForwardSizes r ⌝ }
 {
     let mut from = [0i64; 5];
     let mut to = [0i64; 5];
     for i in 0..5 {
-        let f = series::gap_forward(lows[i], highs[i]);
+        let x = Pair {
+            low: lows[i],
+            high: highs[i],
+        };
+        let f = series::gap_forward(x);
         let low = f.low;
         let high = f.high;
         from[i] = low;
@@ -206,7 +204,7 @@ pub fn gap_forwards(lows: [u64; 5], highs: [u64; 5]) -> Forwards
     }
 }
 
-// ---- LLFR
+// ---- LLFR (SPECIFICATION 5.1)
 
 fn total(volumes: [u64; 5]) -> u64
     requires { ⌜ ((i : ℕ) → getD volumes i 0 ≤ volumeBound) ⌝ }
@@ -239,132 +237,115 @@ fn llfr_numerator(volumes: [u64; 5], g: [i64; 5]) -> i64
 }
 
 // Rounded once.
-pub fn llfr(volumes: [u64; 5], g: Forwards) -> Forward
-    requires { ⌜ ((i : ℕ) → getD volumes i 0 ≤ volumeBound) × (0 < total volumes) × AllBounded g ⌝ }
-    ensures { λ r. ⌜ (forwardOf r ≡ llfr volumes (forwardsOf g)) × Bounded r ⌝ }
+fn llfr_end(volumes: [u64; 5], g: [i64; 5], up: bool) -> i64
+    requires { ⌜ ((i : ℕ) → getD volumes i 0 ≤ volumeBound) × (0 < total volumes) × ((i : ℕ) → natAbs (getD g i (pos 0)) ≤ forwardBound) ⌝ }
+    ensures { λ r. ⌜ r ≡ roundℤ up (llfrNumerator volumes g) (12 * total volumes) ⌝ }
+{
+    rounding::signed_quotient(llfr_numerator(volumes, g), (12 * total(volumes)) as i64, up)
+}
+
+pub fn llfr(volumes: [u64; 5], g: Forwards) -> SignedPair
+    requires { ⌜ ((i : ℕ) → getD volumes i 0 ≤ volumeBound) × (0 < total volumes) × ForwardSizes g ⌝ }
+    ensures { λ r. ⌜ (asSignedPair r ≡ llfr volumes (asForwards g)) × SizeAtMost forwardBound r ⌝ }
 {
     let lows = g.lows;
     let highs = g.highs;
-    let divisor = (12 * total(volumes)) as i64;
-    Forward {
-        low: quotient(llfr_numerator(volumes, lows), divisor, false),
-        high: quotient(llfr_numerator(volumes, highs), divisor, true),
+    SignedPair {
+        low: llfr_end(volumes, lows, false),
+        high: llfr_end(volumes, highs, true),
     }
 }
 
-// ---- the year's forward
+// ---- the year's forward (SPECIFICATION 5.3)
 
-// L × (U - κ) + LLFR × κ
-fn blend(l: i64, f: i64, k: u64) -> i64
+// (L × (U - κ) + LLFR × κ) / U
+fn blended(l: i64, f: i64, k: u64, up: bool) -> i64
     requires { ⌜ (natAbs l ≤ forwardBound) × (natAbs f ≤ forwardBound) × (k ≤ U) ⌝ }
-    ensures { λ r. ⌜ r ≡ blend l f k ⌝ }
+    ensures { λ r. ⌜ r ≡ roundℤ up (blend l f k) U ⌝ }
 {
-    l * ((UNIT - k) as i64) + f * (k as i64)
+    rounding::signed_quotient(l * ((UNIT - k) as i64) + f * (k as i64), SIGNED_UNIT, up)
 }
 
 // The outer of the results for κ = K and K + 1: the larger for a high, the smaller for a low.
 fn forward_end(l: i64, f: i64, k: u64, up: bool) -> i64
     requires { ⌜ (natAbs l ≤ forwardBound) × (natAbs f ≤ forwardBound) × (k + 1 ≤ U) ⌝ }
-    ensures { λ r. ⌜ r ≡ outer up (roundBy up (blend l f k) U) (roundBy up (blend l f (k + 1)) U) ⌝ }
+    ensures { λ r. ⌜ r ≡ outer up (roundℤ up (blend l f k) U) (roundℤ up (blend l f (k + 1)) U) ⌝ }
 {
-    let a = quotient(blend(l, f, k), SIGNED_UNIT, up);
-    let b = quotient(blend(l, f, k + 1), SIGNED_UNIT, up);
+    let a = blended(l, f, k, up);
+    let b = blended(l, f, k + 1, up);
     if (a <= b) == up { b } else { a }
 }
 
-// Between L and LLFR, for κ from K to K + 1.
-fn forward(l: Forward, f: Forward, k: u64) -> Forward
-    requires { ⌜ Bounded l × Bounded f × (k + 1 ≤ U) ⌝ }
-    ensures { λ r. ⌜ (forwardOf r ≡ forward (forwardOf l) (forwardOf f) (pair k (k + 1))) × Bounded r ⌝ }
+// ---- the year's step, times e to minus the forward (SPECIFICATION 5.4)
+
+// f is the forward's high for a low, and its low for a high.
+fn step_end(f: i64, factor: u64, up: bool) -> u64
+    requires { ⌜ (natAbs f ≤ forwardBound) × (factor ≤ highestFactor) ⌝ }
+    ensures { λ r. ⌜ r ≡ stepBy up f factor ⌝ }
 {
-    Forward {
-        low: forward_end(l.low, f.low, k, false),
-        high: forward_end(l.high, f.high, k, true),
-    }
-}
-
-// ---- the year's step: times e to minus the forward
-
-pub struct Factor {
-    pub low: u64,
-    pub high: u64,
-}
-
-// f is the forward's high.
-fn step_low(f: i64, low: u64) -> u64
-    requires { ⌜ (natAbs f ≤ forwardBound) × (low ≤ highestFactor) ⌝ }
-    ensures { λ r. ⌜ r ≡ stepLow f low ⌝ }
-{
-    if 0 <= f {
-        rounding::div_down(low * UNIT, series::growth_high(f as u64))
+    if f < 0 {
+        rounding::scale(factor, series::growth((-f) as u64, up), up)
     } else {
-        rounding::scale_down(low, series::growth_low((-f) as u64))
+        rounding::quotient(factor * UNIT, series::growth(f as u64, !up), up)
     }
 }
 
-// f is the forward's low.
-fn step_high(f: i64, high: u64) -> u64
-    requires { ⌜ (natAbs f ≤ forwardBound) × (high ≤ highestFactor) ⌝ }
-    ensures { λ r. ⌜ r ≡ stepHigh f high ⌝ }
+// The year after p, at the forward between L and LLFR for κ from K to K + 1: the low takes its high, the high its low.
+fn next_year(l: SignedPair, f: SignedPair, k: u64, p: Pair) -> Pair
+    requires { ⌜ SizeAtMost forwardBound l × SizeAtMost forwardBound f × (k + 1 ≤ U) × PairAtMost highestFactor p ⌝ }
+    ensures { λ r. ⌜ asPair r ≡ step (forward (asSignedPair l) (asSignedPair f) (pair k (k + 1))) (asPair p) ⌝ }
 {
-    if 0 <= f {
-        rounding::div_up(high * UNIT, series::growth_low(f as u64))
-    } else {
-        rounding::scale_up(high, series::growth_high((-f) as u64))
-    }
-}
-
-fn step(f: Forward, p: Factor) -> Factor
-    requires { ⌜ Bounded f × (p .low ≤ highestFactor) × (p .high ≤ highestFactor) ⌝ }
-    ensures { λ r. ⌜ factorOf r ≡ step (forwardOf f) (factorOf p) ⌝ }
-{
-    Factor {
-        low: step_low(f.high, p.low),
-        high: step_high(f.low, p.high),
+    let low = forward_end(l.low, f.low, k, false);
+    let high = forward_end(l.high, f.high, k, true);
+    Pair {
+        low: step_end(high, p.low, false),
+        high: step_end(low, p.high, true),
     }
 }
 
 // ---- the years
 
-pub enum LaterAnswer {
-    Worked,
-    HighAboveLimit(u64),
-}
-
-// Years 1 to 150.
-pub struct Later {
-    pub answer: LaterAnswer,
+// Years 1 to 150, at index t - 1.
+pub struct Years {
     pub lows: [u64; 150],
     pub highs: [u64; 150],
 }
 
-// Entries 0 to 19 hold the years to 20; entry 20 + i is worked from the one before. Where a year is refused (ground 8), both
-// arrays are handed back as they came.
-pub fn extrapolate(l: Forward, f: Forward, lows: [u64; 150], highs: [u64; 150]) -> Later
-    requires { ⌜ Usable l × Usable f × InRange lows highs 19 ⌝ }
-    ensures { λ r. ⌜ (outcomeOf r ≡ extrapolate (forwardOf l) (forwardOf f) (κPairs table) 21 (pair (getD lows 19 0) (getD highs 19 0))) × Kept lows highs r ⌝ }
+// The years are as they came where one is refused.
+pub struct Extended {
+    pub verdict: Verdict,
+    pub years: Years,
+}
+
+// Entries 0 to 19 hold the years to 20; entry 20 + i is worked from the one before, or refused by ground 8 (SPECIFICATION 5.5).
+pub fn extrapolate(l: SignedPair, f: SignedPair, years: Years) -> Extended
+    requires { ⌜ Usable l × Usable f × InRange (factorAt years 19) ⌝ }
+    ensures outcome { λ r. ⌜ asLater r ≡ extrapolate (asSignedPair l) (asSignedPair f) (κPairs table) 21 (factorAt years 19) ⌝ }
+    ensures beside { λ r. ⌜ Kept years r ⌝ }
 {
-    let mut later_lows = lows;
-    let mut later_highs = highs;
+    let k = weights();
+    let mut lows = years.lows;
+    let mut highs = years.highs;
+    let mut p = Pair {
+        low: lows[19],
+        high: highs[19],
+    };
     for i in 0..LATER_YEARS {
-        let p = Factor {
-            low: later_lows[19 + i],
-            high: later_highs[19 + i],
-        };
-        let q = step(forward(l, f, k_at(i)), p);
-        if HIGHEST_FACTOR < q.high {
-            return Later {
-                answer: LaterAnswer::HighAboveLimit(21 + i as u64),
-                lows,
-                highs,
+        p = next_year(l, f, k[i], p);
+        if HIGHEST_FACTOR < p.high {
+            return Extended {
+                verdict: Verdict::Refused(Ground::HighAboveLimit(21 + i as u64)),
+                years: years,
             };
         }
-        later_lows[20 + i] = q.low;
-        later_highs[20 + i] = q.high;
+        lows[20 + i] = p.low;
+        highs[20 + i] = p.high;
     }
-    Later {
-        answer: LaterAnswer::Worked,
-        lows: later_lows,
-        highs: later_highs,
+    Extended {
+        verdict: Verdict::Passed,
+        years: Years {
+            lows: lows,
+            highs: highs,
+        },
     }
 }

@@ -7,8 +7,8 @@ fn show(calls: &[u8], lent: &mut [u8], length: usize) {
     if lent.len() < length {
         return;
     }
-    let answer = replay::page_after(calls, &mut lent[..length]);
-    io::print_decimal(STDOUT_FILENO, book::page_number(answer));
+    let verdict = replay::page_after(calls, &mut lent[..length]);
+    io::print_decimal(STDOUT_FILENO, grounds::number(verdict));
     io::write_all(STDOUT_FILENO, b"\n");
     io::write_all(STDOUT_FILENO, lent);
 }

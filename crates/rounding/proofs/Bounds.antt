@@ -1,11 +1,10 @@
 -- Rounded quotients are no larger than what was divided, whatever the divisor (over 0 the quotient is 0).
-use Prim.Native.Nat.{ℕ, zero, suc, _+_, _-_, _/_, _≤_}
-use native.Mathlib.Nat.{div-le-self, div-zero, zero-lt-suc}
+use Prim.Native.Nat.{ℕ, zero, suc, _/_, _≤_}
+use native.Mathlib.Nat.{div-le-self}
 use native.Mathlib.Omega.{arith}
 use lib.IntN.{ℤ, pos, negsuc}
 use lib.Signed.{mag, quotZ, _<ℤ_}
-use Rattle.fraction.specs.Rounding.{floor, ceiling, ceilDiv}
-use Rattle.fraction.proofs.Floor.{ceilDiv-suc, ceilDiv-zero}
+use Rattle.fraction.specs.Rounding.{floor, ceiling}
 use Rattle.rounding.proofs.Signed.{mag-negative}
 
 pub floor-mag : (a : ℤ) (d : ℕ) → mag (floor a d) ≤ mag a
@@ -23,8 +22,3 @@ quot-mag (pos a) (pos b) h = floor-mag (pos a) b
 quot-mag (negsuc a) (pos b) h = ceiling-mag (negsuc a) b
 quot-mag (pos a) (negsuc b) h = absurd (h .lt)
 quot-mag (negsuc a) (negsuc b) h = absurd (h .lt)
-
-pub ceilDiv-≤ : (a d : ℕ) → ceilDiv a d ≤ a
-ceilDiv-≤ a zero = omega (arith, div-zero (a + (0 - 1)))
-ceilDiv-≤ zero (suc d) = omega (arith, ceilDiv-zero (suc d) (zero-lt-suc d))
-ceilDiv-≤ (suc a) (suc d) = omega (arith, ceilDiv-suc a (suc d) (zero-lt-suc d), div-le-self a (suc d))

@@ -7,10 +7,11 @@ use lib.Dec.{ltb→lt}
 use lib.IntN.{ℤ, pos, negsuc, natAbs, _+ℤ_, _-ℤ_}
 use lib.Signed.{mag, mag-rem, ltZ, quotZ, remZ, _<ℤ_}
 use mir.Syntax.{w64}
-use mir.Val.{SFits, ofZ, toZ}
+use mir.Val.{SFits, ofZ}
 use mir.ValLaws.{toZ-ofZ, sfits-le}
 use Rattle.fraction.specs.Rounding.{floor, ceiling}
 use Rattle.rounding.proofs.Bounds.{floor-mag, ceiling-mag, quot-mag}
+use Rattle.rounding.proofs.Machine.{stored}
 use Rattle.rounding.proofs.Remainder.{floor-left, floor-exact, ceiling-left, ceiling-exact}
 
 -- ---- a direction: the quotient toward zero is stepped where the remainder passes the test
@@ -27,9 +28,6 @@ pub ceiling-rounds : Rounds (λ r. ltZ (pos 0) r) (λ q. q +ℤ pos 1) ceiling
 ceiling-rounds = record { stepped = ceiling-left; kept = ceiling-exact; within = ceiling-mag }
 
 -- ---- the operands are read back from bits, and so is the result
-
-abbrev stored : ℤ → ℤ
-stored z = toZ w64 (ofZ w64 z)
 
 abbrev quotient : ℤ → ℤ → ℤ
 quotient a b = stored (quotZ (stored a) (stored b))

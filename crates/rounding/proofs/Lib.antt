@@ -2,3 +2,4 @@ pub mod Signed
 pub mod Bounds
 pub mod Remainder
 pub mod Division
+pub mod Machine

@@ -1,30 +1,53 @@
-// Quotients rounded down and up, equal to the definitions of the crate fraction.
+// A low and a high, and quotients rounded to either side: up for a high, down for a low. Each function that takes `up` works a
+// high with it, and a low without.
 ghost use mathlib.Core.Path.{_≡_};
-ghost use Prim.Native.Nat.{_*_, _/_, _^_, _<_};
+ghost use Prim.Native.Nat.{_+_, _*_, _^_, _≤_, _<_};
 ghost use lib.IntN.{pos, natAbs};
 ghost use lib.Signed.{_<ℤ_};
-ghost use Rattle.fraction.specs.Rounding.{U, floor, ceiling, ceilDiv};
+ghost use Rattle.fraction.specs.Rounding.{U, floor, ceiling, roundℤ, roundℕ};
+ghost use Rattle.method.specs.Units.{endOf};
+ghost use Rattle.rounding.specs.Pairs.{asPair};
 
 // U of the definitions.
 const UNIT: u64 = 1_000_000_000;
 
-pub fn div_down(a: u64, b: u64) -> u64
-    requires { ⌜ 0 < b ⌝ }
-    ensures { λ r. ⌜ r ≡ a / b ⌝ }
-{
-    a / b
+// Factors and yearly factors.
+pub struct Pair {
+    pub low: u64,
+    pub high: u64,
 }
 
-// By the remainder: a + (b - 1), which the definition divides, could wrap.
-pub fn div_up(a: u64, b: u64) -> u64
-    requires { ⌜ 0 < b ⌝ }
-    ensures { λ r. ⌜ r ≡ ceilDiv a b ⌝ }
+// Logarithms and forwards, of either sign.
+pub struct SignedPair {
+    pub low: i64,
+    pub high: i64,
+}
+
+// The high, or the low.
+pub fn end(p: Pair, up: bool) -> u64
+    ensures { λ r. ⌜ r ≡ endOf up (asPair p) ⌝ }
 {
-    if a % b == 0 { a / b } else { a / b + 1 }
+    if up { p.high } else { p.low }
+}
+
+// a and b leave room for the sum that the definition divides.
+pub fn quotient(a: u64, b: u64, up: bool) -> u64
+    requires { ⌜ (0 < b) × (a + b ≤ 2 ^ 64) ⌝ }
+    ensures { λ r. ⌜ r ≡ roundℕ up a b ⌝ }
+{
+    if up { (a + (b - 1)) / b } else { a / b }
+}
+
+// a * x / U
+pub fn scale(a: u64, x: u64, up: bool) -> u64
+    requires { ⌜ a * x < 2 ^ 63 ⌝ }
+    ensures { λ r. ⌜ r ≡ roundℕ up (a * x) U ⌝ }
+{
+    quotient(a * x, UNIT, up)
 }
 
 // Toward minus infinity. The machine's quotient goes toward zero: a remainder below zero says that it went up.
-pub fn floor_div(a: i64, b: i64) -> i64
+fn floor_div(a: i64, b: i64) -> i64
     requires { ⌜ pos 0 <ℤ b ⌝ }
     ensures { λ r. ⌜ r ≡ floor a (natAbs b) ⌝ }
 {
@@ -33,7 +56,7 @@ pub fn floor_div(a: i64, b: i64) -> i64
 }
 
 // Toward plus infinity. Not by negation, as the definition: the least i64 has no negative.
-pub fn ceil_div(a: i64, b: i64) -> i64
+fn ceil_div(a: i64, b: i64) -> i64
     requires { ⌜ pos 0 <ℤ b ⌝ }
     ensures { λ r. ⌜ r ≡ ceiling a (natAbs b) ⌝ }
 {
@@ -41,18 +64,9 @@ pub fn ceil_div(a: i64, b: i64) -> i64
     if 0 < a % b { q + 1 } else { q }
 }
 
-// a * x / U, rounded down.
-pub fn scale_down(a: u64, x: u64) -> u64
-    requires { ⌜ a * x < 2 ^ 64 ⌝ }
-    ensures { λ r. ⌜ r ≡ a * x / U ⌝ }
+pub fn signed_quotient(a: i64, b: i64, up: bool) -> i64
+    requires { ⌜ pos 0 <ℤ b ⌝ }
+    ensures { λ r. ⌜ r ≡ roundℤ up a (natAbs b) ⌝ }
 {
-    a * x / UNIT
-}
-
-// a * x / U, rounded up.
-pub fn scale_up(a: u64, x: u64) -> u64
-    requires { ⌜ a * x < 2 ^ 64 ⌝ }
-    ensures { λ r. ⌜ r ≡ ceilDiv (a * x) U ⌝ }
-{
-    div_up(a * x, UNIT)
+    if up { ceil_div(a, b) } else { floor_div(a, b) }
 }

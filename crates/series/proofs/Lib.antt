@@ -1,4 +1,2 @@
-pub mod Quotients
 pub mod Logarithm
-pub mod Growth
-pub mod Forwards
+pub mod Exponential

@@ -1,11 +1,15 @@
-// The logarithm G and the growth E, equal to the definitions of the crate method.
+// The logarithm G and the growth E, equal to the definitions of the crate method (SPECIFICATION 4). Each function that takes `up`
+// works a high with it, and a low without.
+use rounding::Pair;
+use rounding::SignedPair;
 ghost use mathlib.Core.Path.{_≡_};
-ghost use Prim.Native.Nat.{_+_, _-_, _*_, _≤_, _<_};
-ghost use Rattle.fraction.specs.Rounding.{U};
-ghost use Rattle.method.specs.Units.{pair};
+ghost use Prim.Native.Nat.{_+_, _-_, _≤_, _<_};
+ghost use Rattle.fraction.specs.Rounding.{U, roundℕ};
+ghost use Rattle.method.specs.Ranges.{forwardBound, growthRange, growthBound, YearlyFactor};
 ghost use Rattle.method.specs.Quotes.{lowerEnd, upperEnd};
-ghost use Rattle.method.specs.Series.{logarithmSum, logarithm, G, gapForward, ultimateForward, growth, growthLow, growthHigh};
-ghost use Rattle.series.specs.Series.{roundBy, forwardOf, negated, forwardBound, Bounded, startBound, exponentBound, growthBound};
+ghost use Rattle.method.specs.Series.{logarithm, G, gapForward, ultimateForward};
+ghost use Rattle.rounding.specs.Pairs.{asPair, asSignedPair, SizeAtMost};
+ghost use Rattle.series.specs.Sides.{growthBy, negated};
 
 // U of the definitions.
 const UNIT: u64 = 1_000_000_000;
@@ -15,40 +19,7 @@ const LOG_TERMS: u64 = 5;
 
 const GROWTH_TERMS: u64 = 7;
 
-// A low and a high, of either sign.
-pub struct Forward {
-    pub low: i64,
-    pub high: i64,
-}
-
-// Rounded up or down. Each function below that takes `up` works a high with it, and a low without.
-fn quotient(a: u64, b: u64, up: bool) -> u64
-    requires { ⌜ 0 < b ⌝ }
-    ensures { λ r. ⌜ r ≡ roundBy up a b ⌝ }
-{
-    if up {
-        rounding::div_up(a, b)
-    } else {
-        rounding::div_down(a, b)
-    }
-}
-
-// ---- G(x) = -ln x
-
-// p1/1 + p2/3 + .. + p5/9, from p1 = z.
-fn odd_power_sum(z: u64, up: bool) -> u64
-    requires { ⌜ z ≤ startBound ⌝ }
-    ensures { λ r. ⌜ (r ≡ logarithmSum (roundBy up) (roundBy up (z * z) U) 1 z 5) × (2 * r < forwardBound) ⌝ }
-{
-    let s = quotient(z * z, UNIT, up);
-    let mut p = z;
-    let mut sum = 0;
-    for i in 0..LOG_TERMS {
-        sum += quotient(p, 2 * i + 1, up);
-        p = quotient(p * s, UNIT, up);
-    }
-    sum
-}
+// ---- G(x) = -ln x (SPECIFICATION 4.1), and the forwards made from it (4.2)
 
 fn distance_to_unit(x: u64) -> u64
     ensures { λ r. ⌜ r ≡ (U - x) + (x - U) ⌝ }
@@ -59,30 +30,36 @@ fn distance_to_unit(x: u64) -> u64
 // |ln x|, without the 1 that is added to the high.
 fn log_size(x: u64, up: bool) -> u64
     requires { ⌜ (lowerEnd ≤ x) × (x ≤ upperEnd) ⌝ }
-    ensures { λ r. ⌜ (r ≡ logarithm (roundBy up) ((U - x) + (x - U)) x) × (r < forwardBound) ⌝ }
+    ensures { λ r. ⌜ (r ≡ logarithm (roundℕ up) ((U - x) + (x - U)) x) × (r < forwardBound) ⌝ }
 {
-    let d = distance_to_unit(x);
-    let z = quotient(d * UNIT, UNIT + x, up);
-    2 * odd_power_sum(z, up)
+    let z = rounding::quotient(distance_to_unit(x) * UNIT, UNIT + x, up);
+    let s = rounding::scale(z, z, up);
+    let mut p = z;
+    let mut sum = 0;
+    for i in 0..LOG_TERMS {
+        sum += rounding::quotient(p, 2 * i + 1, up);
+        p = rounding::scale(p, s, up);
+    }
+    2 * sum
 }
 
-fn negate(f: Forward) -> Forward
-    requires { ⌜ Bounded f ⌝ }
-    ensures { λ r. ⌜ (forwardOf r ≡ negated (forwardOf f)) × Bounded r ⌝ }
+fn negate(f: SignedPair) -> SignedPair
+    requires { ⌜ SizeAtMost forwardBound f ⌝ }
+    ensures { λ r. ⌜ (asSignedPair r ≡ negated (asSignedPair f)) × SizeAtMost forwardBound r ⌝ }
 {
-    Forward {
+    SignedPair {
         low: -f.high,
         high: -f.low,
     }
 }
 
-pub fn minus_log(x: u64) -> Forward
+pub fn minus_log(x: u64) -> SignedPair
     requires { ⌜ (lowerEnd ≤ x) × (x ≤ upperEnd) ⌝ }
-    ensures { λ r. ⌜ (forwardOf r ≡ G x) × Bounded r ⌝ }
+    ensures { λ r. ⌜ (asSignedPair r ≡ G x) × SizeAtMost forwardBound r ⌝ }
 {
     let low = log_size(x, false);
     let high = log_size(x, true) + 1;
-    let f = Forward {
+    let f = SignedPair {
         low: low as i64,
         high: high as i64,
     };
@@ -90,52 +67,38 @@ pub fn minus_log(x: u64) -> Forward
 }
 
 // From G's low at the high x to G's high at the low x.
-pub fn gap_forward(low: u64, high: u64) -> Forward
-    requires { ⌜ (lowerEnd ≤ low) × ((low ≤ upperEnd) × ((lowerEnd ≤ high) × (high ≤ upperEnd))) ⌝ }
-    ensures { λ r. ⌜ (forwardOf r ≡ gapForward (pair low high)) × Bounded r ⌝ }
+pub fn gap_forward(x: Pair) -> SignedPair
+    requires { ⌜ YearlyFactor (asPair x) ⌝ }
+    ensures { λ r. ⌜ (asSignedPair r ≡ gapForward (asPair x)) × SizeAtMost forwardBound r ⌝ }
 {
-    let from = minus_log(high);
-    let to = minus_log(low);
-    Forward {
+    let from = minus_log(x.high);
+    let to = minus_log(x.low);
+    SignedPair {
         low: from.low,
         high: to.high,
     }
 }
 
-// ln(1 + UFR)
-pub fn ultimate_forward(ufr: u64) -> Forward
+// L = ln(1 + UFR)
+pub fn ultimate_forward(ufr: u64) -> SignedPair
     requires { ⌜ ufr ≤ 10_000 ⌝ }
-    ensures { λ r. ⌜ (forwardOf r ≡ ultimateForward ufr) × Bounded r ⌝ }
+    ensures { λ r. ⌜ (asSignedPair r ≡ ultimateForward ufr) × SizeAtMost forwardBound r ⌝ }
 {
     negate(minus_log(UNIT + 10_000 * ufr))
 }
 
-// ---- E(y) = e^y
+// ---- E(y) = e^y (SPECIFICATION 4.3)
 
-// t0 + .. + t7, without the 1 that is added to the high.
-fn growth_sum(y: u64, up: bool) -> u64
-    requires { ⌜ y ≤ exponentBound ⌝ }
-    ensures { λ r. ⌜ (r ≡ growth (roundBy up) y) × ((U ≤ r) × (r < growthBound)) ⌝ }
+// t0 + .. + t7, and 1 more for the high.
+pub fn growth(y: u64, up: bool) -> u64
+    requires { ⌜ y ≤ growthRange ⌝ }
+    ensures { λ r. ⌜ (r ≡ growthBy up y) × (U ≤ r) × (r ≤ growthBound) ⌝ }
 {
     let mut t = UNIT;
     let mut sum = UNIT;
     for i in 1..=GROWTH_TERMS {
-        t = quotient(t * y, i * UNIT, up);
+        t = rounding::quotient(t * y, i * UNIT, up);
         sum += t;
     }
-    sum
-}
-
-pub fn growth_low(y: u64) -> u64
-    requires { ⌜ y ≤ exponentBound ⌝ }
-    ensures { λ r. ⌜ (r ≡ growthLow y) × ((U ≤ r) × (r ≤ growthBound)) ⌝ }
-{
-    growth_sum(y, false)
-}
-
-pub fn growth_high(y: u64) -> u64
-    requires { ⌜ y ≤ exponentBound ⌝ }
-    ensures { λ r. ⌜ (r ≡ growthHigh y) × ((U ≤ r) × (r ≤ growthBound)) ⌝ }
-{
-    growth_sum(y, true) + 1
+    if up { sum + 1 } else { sum }
 }

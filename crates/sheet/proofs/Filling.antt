@@ -4,8 +4,8 @@ use mathlib.Core.List.{List}
 use Prim.Native.Nat.{ℕ, _+_, _≤_, _<_}
 use native.Mathlib.Numerals.{add-one}
 use native.Mathlib.Omega.{arith}
-use lib.ListN.{length, take, getD, set, length-set}
-use lib.Seq.{take-suc, take-suc-set, take-all}
+use lib.ListN.{length, take, drop, getD, set, length-set, length-take, length-drop}
+use lib.Seq.{take-suc, take-suc-set, take-all, getD-take, getD-drop}
 
 pub record Filled {A : Type 0} (l a : List A) (i : ℕ) : Type 0 where
   pub within : i ≤ length l
@@ -27,3 +27,12 @@ module _ {A : Type 0} (l a : List A) where
 
   pub filled-all : (i : ℕ) → Filled l a i → length l ≤ i → a ≡ l
   filled-all i f h = sym (take-all i a (omega (arith, f .long))) ∙ f .same ∙ take-all i l h
+
+-- ---- the n elements from m on
+
+module _ {A : Type 0} (m n : ℕ) (l : List A) where
+  pub part-length : m + n ≤ length l → length (take n (drop m l)) ≡ n
+  part-length h = simp (length-take, length-drop) (omega arith)
+
+  pub part-at : (i : ℕ) (d : A) → i < n → getD (take n (drop m l)) i d ≡ getD l (m + i) d
+  part-at i d h = rw (getD-take, getD-drop)

@@ -1,4 +1,5 @@
-pub mod Bytes
+pub mod Bodies
+pub mod Places
 pub mod Filling
 pub mod Trading
-pub mod Answered
+pub mod Ranges

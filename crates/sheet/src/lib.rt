@@ -1,34 +1,34 @@
 // Reads a typed sheet of any bytes: its numbers, or the first of grounds 1 to 4.
+use grounds::Ground;
+use grounds::Verdict;
 ghost use mathlib.Core.Path.{_≡_};
+ghost use mathlib.Core.Bool.{true, cond};
 ghost use mathlib.Core.List.{map};
 ghost use Prim.Native.Nat.{_^_, _<_, _≤_};
 ghost use lib.Dec.{ltb};
-ghost use lib.IntN.{natAbs};
+ghost use lib.IntN.{pos, natAbs};
+ghost use lib.Signed.{nonNeg};
 ghost use lib.ListN.{length, take, drop, getD};
-ghost use Rattle.method.specs.Sheet.{kindByte, maturityBytes, numberBytes, bodyLength, lowest, highest, maturities, turns};
-ghost use Rattle.method.specs.Sheet.{bodyOf, bigEndian, twosComplement16, reading, rightRecord, inRange, firstFailure};
-ghost use Rattle.method.specs.Sheet.{total, numbersOf, readSheet};
-ghost use Rattle.method.proofs.Turns.{turnAt, allNumbers};
-ghost use Rattle.sheet.specs.Records.{kindOf, turnOf, testOf, endOf, InTurn, unsignedOf};
-ghost use Rattle.sheet.specs.Answer.{numbersIn, outcomeOf, noNumbers, heldIn, holding};
+ghost use Rattle.method.specs.Grounds.{refused};
+ghost use Rattle.method.specs.Sheet.{kindByte, maturityBytes, numberBytes, bodyLength, lowest, highest, maturities, slots, slotAt};
+ghost use Rattle.method.specs.Sheet.{bodyOf, twosComplement16, reading, numberOfRecord, rightRecord, inRange, firstFailure};
+ghost use Rattle.method.specs.Sheet.{allNumbers, total, numbersOf, readSheet};
+ghost use Rattle.grounds.specs.Verdicts.{asGround, asOutcome, resultOr};
+ghost use Rattle.sheet.specs.Views.{asKind, asSlot, asNumbers, noNumbers};
+ghost use Rattle.sheet.specs.Records.{endOf, InSlot, inKind, AllInside, orElse};
 
-// The ground on which a sheet is refused, with the place of the record, from 1, or none.
-pub enum SheetAnswer {
-    Read,
-    WrongLength,
-    WrongRecord(u64),
-    OutOfRange(u64),
-    NoVolume,
-}
-
-// The numbers are all zero where the sheet is refused.
-pub struct Sheet {
-    pub answer: SheetAnswer,
+pub struct Numbers {
     pub month: u64,
     pub rates: [i16; 17],
     pub volumes: [u64; 5],
     pub ultimate: u64,
     pub limit: u64,
+}
+
+// The numbers are all zero where the sheet is refused.
+pub struct ReadSheet {
+    pub verdict: Verdict,
+    pub numbers: Numbers,
 }
 
 pub enum Kind {
@@ -39,8 +39,8 @@ pub enum Kind {
     Limit,
 }
 
-// A record in its turn, with the byte at which it starts.
-pub struct Turn {
+// What is due at one place of the sheet, and the byte at which its record starts.
+pub struct Slot {
     pub kind: Kind,
     pub maturity: u64,
     pub start: usize,
@@ -52,32 +52,33 @@ struct Form(u8, usize, usize);
 // The lowest number and the highest.
 struct Range(i64, i64);
 
-// What grounds 2 and 3 ask of each record.
-enum Test {
-    RightRecord,
-    InRange,
+// One record: whether its kind and maturity are due, whether its number is in range, and the number.
+struct Reading {
+    right: bool,
+    inside: bool,
+    number: i64,
 }
 
-// ---- the 25 records
+// All 25: the places of the first wrong record and of the first number outside, from 1; 0 where there is none.
+struct Records {
+    wrong: u64,
+    outside: u64,
+    numbers: [i64; 25],
+}
+
+// ---- the 25 slots
 
 const MATURITIES: [u8; 17] = [1, 2, 3, 4, 5, 6, 7, 8, 9, 10, 12, 15, 20, 25, 30, 40, 50];
-
-// With the bound that a cast in place would leave to its caller.
-fn wide(byte: u8) -> u64
-    ensures { λ r. ⌜ (r ≡ byte) × (r < 256) ⌝ }
-{
-    byte as u64
-}
 
 pub fn maturity(i: usize) -> u64
     requires { ⌜ i < 17 ⌝ }
     ensures { λ r. ⌜ r ≡ getD maturities i 0 ⌝ }
 {
-    wide(MATURITIES[i])
+    big_endian::wide(MATURITIES[i])
 }
 
 fn form_of(k: Kind) -> Form
-    ensures { λ r. ⌜ (r .0 ≡ kindByte (kindOf k)) × ((r .1 ≡ maturityBytes (kindOf k)) × (r .2 ≡ numberBytes (kindOf k))) ⌝ }
+    ensures { λ r. ⌜ (r .0 ≡ kindByte (asKind k)) × ((r .1 ≡ maturityBytes (asKind k)) × (r .2 ≡ numberBytes (asKind k))) ⌝ }
 {
     match k {
         Kind::Month => Form(0x01, 0, 2),
@@ -89,7 +90,7 @@ fn form_of(k: Kind) -> Form
 }
 
 fn range_of(k: Kind) -> Range
-    ensures { λ r. ⌜ (r .0 ≡ lowest (kindOf k)) × (r .1 ≡ highest (kindOf k)) ⌝ }
+    ensures { λ r. ⌜ (r .0 ≡ lowest (asKind k)) × (r .1 ≡ highest (asKind k)) ⌝ }
 {
     match k {
         Kind::Month => Range(0, 2_399),
@@ -100,125 +101,67 @@ fn range_of(k: Kind) -> Range
     }
 }
 
-// The turn of the record at index i. The volumes' maturities are the last five of the table.
-pub fn turn_at(i: usize) -> Turn
+// SPECIFICATION 2.1. The volumes' maturities are the last five of the table.
+pub fn slot_at(i: usize) -> Slot
     requires { ⌜ i < 25 ⌝ }
-    ensures { λ r. ⌜ InTurn i r ⌝ }
+    ensures { λ r. ⌜ InSlot i r ⌝ }
 {
     if i == 0 {
-        return Turn {
+        Slot {
             kind: Kind::Month,
             maturity: 0,
             start: 0,
-        };
-    }
-    if i < 18 {
+        }
+    } else if i < 18 {
         let j = i - 1;
-        return Turn {
+        Slot {
             kind: Kind::Rate,
             maturity: maturity(j),
             start: 3 + 4 * j,
-        };
-    }
-    if i < 23 {
+        }
+    } else if i < 23 {
         let j = i - 18;
-        return Turn {
+        Slot {
             kind: Kind::Volume,
             maturity: maturity(12 + j),
             start: 71 + 6 * j,
-        };
-    }
-    if i == 23 {
-        return Turn {
+        }
+    } else if i == 23 {
+        Slot {
             kind: Kind::Ultimate,
             maturity: 0,
             start: 101,
-        };
-    }
-    Turn {
-        kind: Kind::Limit,
-        maturity: 0,
-        start: 104,
+        }
+    } else {
+        Slot {
+            kind: Kind::Limit,
+            maturity: 0,
+            start: 104,
+        }
     }
 }
 
-// ---- a record's body and number
+// ---- a record
 
-// The body of the record in its turn: a part of the sheet.
-pub fn body(sheet: &[u8], t: Turn) -> &[u8]
-    requires { ⌜ endOf t ≤ length (now sheet) ⌝ }
-    ensures { λ r. ⌜ (now r ≡ bodyOf (now (sheet .entry)) (turnOf t)) × (length (now r) ≡ bodyLength (kindOf (t .kind))) ⌝ }
+// A part of the sheet, without the kind byte.
+pub fn body(sheet: &[u8], slot: Slot) -> &[u8]
+    requires { ⌜ endOf slot ≤ length (now sheet) ⌝ }
+    ensures { λ r. ⌜ (now r ≡ bodyOf (now (sheet .entry)) (asSlot slot)) × (length (now r) ≡ bodyLength (asKind (slot .kind))) ⌝ }
 {
-    let kind = t.kind;
+    let kind = slot.kind;
     let form = form_of(kind);
-    let from = t.start + 1;
+    let from = slot.start + 1;
     let to = from + (form.1 + form.2);
     &sheet[from..to]
 }
 
-// The high byte first.
-fn big_endian(bytes: &[u8]) -> u64
-    requires { ⌜ length (now bytes) ≤ 4 ⌝ }
-    ensures { λ r. ⌜ (r ≡ bigEndian 0 (now (bytes .entry))) × (r < 256 ^ length (now (bytes .entry))) ⌝ }
+// Ground 2's test: the kind byte, and the maturity where the body has one.
+fn right_record(sheet: &[u8], slot: Slot, body: &[u8]) -> bool
+    requires { ⌜ (endOf slot ≤ length (now sheet)) × (now body ≡ bodyOf (now sheet) (asSlot slot)) ⌝ }
+    ensures { λ r. ⌜ r ≡ rightRecord (now (sheet .entry)) (asSlot slot) ⌝ }
 {
-    let mut n: u64 = 0;
-    let mut i: usize = 0;
-    while i < bytes.len() {
-        n = n * 256 + wide(bytes[i]);
-        i += 1;
-    }
-    n
-}
-
-// The number of the record at index i, before its sign is read.
-fn unsigned(sheet: &[u8], i: usize) -> u64
-    requires { ⌜ (length (now sheet) ≡ 109) × (i < 25) ⌝ }
-    ensures { λ r. ⌜ (r ≡ unsignedOf (now (sheet .entry)) (turnAt i)) × (r < 256 ^ numberBytes (turnAt i .kind)) ⌝ }
-{
-    let t = turn_at(i);
-    let kind = t.kind;
-    let form = form_of(kind);
-    let from = form.1;
-    let b = body(sheet, t);
-    big_endian(&b[from..])
-}
-
-fn twos_complement(n: u64) -> i16
-    requires { ⌜ n < 2 ^ 16 ⌝ }
-    ensures { λ r. ⌜ r ≡ twosComplement16 n ⌝ }
-{
-    let z = n as i64;
-    if n < 0x8000 {
-        z as i16
-    } else {
-        (z - 0x10000) as i16
-    }
-}
-
-// A rate is in two's complement, any other number has no sign.
-fn reading_of(k: Kind, n: u64) -> i64
-    requires { ⌜ n < 256 ^ numberBytes (kindOf k) ⌝ }
-    ensures { λ r. ⌜ r ≡ reading (kindOf k) n ⌝ }
-{
-    let z = n as i64;
-    match k {
-        Kind::Month => z,
-        Kind::Rate => twos_complement(n) as i64,
-        Kind::Volume => z,
-        Kind::Ultimate => z,
-        Kind::Limit => z,
-    }
-}
-
-// ---- grounds 2 and 3
-
-fn right_record(sheet: &[u8], i: usize) -> bool
-    requires { ⌜ (length (now sheet) ≡ 109) × (i < 25) ⌝ }
-    ensures { λ r. ⌜ r ≡ rightRecord (now (sheet .entry)) (turnAt i) ⌝ }
-{
-    let t = turn_at(i);
-    let kind = t.kind;
-    let start = t.start;
+    let kind = slot.kind;
+    let start = slot.start;
     let form = form_of(kind);
     if sheet[start] != form.0 {
         return false;
@@ -226,76 +169,148 @@ fn right_record(sheet: &[u8], i: usize) -> bool
     if form.1 == 0 {
         return true;
     }
-    let b = body(sheet, t);
-    wide(b[0]) == t.maturity
+    big_endian::wide(body[0]) == slot.maturity
 }
 
-fn in_range(sheet: &[u8], i: usize) -> bool
-    requires { ⌜ (length (now sheet) ≡ 109) × (i < 25) ⌝ }
-    ensures { λ r. ⌜ r ≡ inRange (now (sheet .entry)) (turnAt i) ⌝ }
+fn twos_complement(n: u64) -> i64
+    requires { ⌜ n < 2 ^ 16 ⌝ }
+    ensures { λ r. ⌜ r ≡ twosComplement16 n ⌝ }
 {
-    let t = turn_at(i);
-    let kind = t.kind;
-    let range = range_of(kind);
-    let z = reading_of(kind, unsigned(sheet, i));
+    let z = n as i64;
+    if n < 0x8000 { z } else { z - 0x10000 }
+}
+
+// A rate is in two's complement, any other number has no sign (SPECIFICATION 2.2).
+fn signed(k: Kind, n: u64) -> i64
+    requires { ⌜ n < 256 ^ numberBytes (asKind k) ⌝ }
+    ensures { λ r. ⌜ r ≡ reading (asKind k) n ⌝ }
+{
+    let z = n as i64;
+    match k {
+        Kind::Month => z,
+        Kind::Rate => twos_complement(n),
+        Kind::Volume => z,
+        Kind::Ultimate => z,
+        Kind::Limit => z,
+    }
+}
+
+// Ground 3's test.
+fn in_range(k: Kind, z: i64) -> bool
+    ensures { λ r. ⌜ r ≡ inKind (asKind k) z ⌝ }
+{
+    let range = range_of(k);
     if range.0 <= z { z <= range.1 } else { false }
 }
 
-fn passes(sheet: &[u8], test: Test, i: usize) -> bool
+fn read_record(sheet: &[u8], i: usize) -> Reading
     requires { ⌜ (length (now sheet) ≡ 109) × (i < 25) ⌝ }
-    ensures { λ r. ⌜ r ≡ testOf test (now (sheet .entry)) (turnAt i) ⌝ }
+    ensures right { λ r. ⌜ r .right ≡ rightRecord (now (sheet .entry)) (slotAt i) ⌝ }
+    ensures inside { λ r. ⌜ r .inside ≡ inRange (now (sheet .entry)) (slotAt i) ⌝ }
+    ensures number { λ r. ⌜ r .number ≡ numberOfRecord (now (sheet .entry)) (slotAt i) ⌝ }
 {
-    match test {
-        Test::RightRecord => right_record(sheet, i),
-        Test::InRange => in_range(sheet, i),
+    let slot = slot_at(i);
+    let kind = slot.kind;
+    let form = form_of(kind);
+    let from = form.1;
+    let b = body(sheet, slot);
+    let z = signed(kind, big_endian::number(&b[from..]));
+    Reading {
+        right: right_record(sheet, slot, b),
+        inside: in_range(kind, z),
+        number: z,
     }
 }
 
-// The place of the first record that fails the test, from 1; 0 where none does.
-fn first_failure(sheet: &[u8], test: Test) -> u64
-    requires { ⌜ length (now sheet) ≡ 109 ⌝ }
-    ensures { λ r. ⌜ r ≡ firstFailure (testOf test (now (sheet .entry))) 1 turns ⌝ }
+// ---- all records
+
+// The place found so far, or this one where there is none yet and the test fails here.
+fn kept(found: u64, passes: bool, place: u64) -> u64
+    ensures { λ r. ⌜ r ≡ orElse found (cond passes 0 place) ⌝ }
 {
+    if found != 0 {
+        return found;
+    }
+    if passes { 0 } else { place }
+}
+
+// Each record is read once, for both tests and its number.
+fn read_records(sheet: &[u8]) -> Records
+    requires { ⌜ length (now sheet) ≡ 109 ⌝ }
+    ensures wrong { λ r. ⌜ r .wrong ≡ firstFailure (rightRecord (now (sheet .entry))) 1 slots ⌝ }
+    ensures outside { λ r. ⌜ r .outside ≡ firstFailure (inRange (now (sheet .entry))) 1 slots ⌝ }
+    ensures numbers { λ r. ⌜ r .numbers ≡ allNumbers (now (sheet .entry)) ⌝ }
+{
+    let mut wrong: u64 = 0;
+    let mut outside: u64 = 0;
+    let mut numbers = [0i64; 25];
     let mut i: usize = 0;
     while i < 25 {
-        if passes(sheet, test, i) {
-            i += 1;
-        } else {
-            return i as u64 + 1;
-        }
+        let record = read_record(sheet, i);
+        let place = i as u64 + 1;
+        wrong = kept(wrong, record.right, place);
+        outside = kept(outside, record.inside, place);
+        let z = record.number;
+        numbers[i] = z;
+        i += 1;
     }
-    0
+    Records {
+        wrong: wrong,
+        outside: outside,
+        numbers: numbers,
+    }
 }
 
-// ---- the numbers, and ground 4
+// ---- the numbers of a sheet whose records pass
 
-fn rates(sheet: &[u8]) -> [i16; 17]
-    requires { ⌜ length (now sheet) ≡ 109 ⌝ }
-    ensures { λ r. ⌜ r ≡ take 17 (drop 1 (allNumbers (now (sheet .entry)))) ⌝ }
+fn rates(numbers: &[i64; 25]) -> [i16; 17]
+    requires { ⌜ AllInside (now numbers) ⌝ }
+    ensures { λ r. ⌜ r ≡ take 17 (drop 1 (now (numbers .entry))) ⌝ }
 {
     let mut rates = [0i16; 17];
     let mut i: usize = 0;
     while i < 17 {
-        rates[i] = twos_complement(unsigned(sheet, 1 + i));
+        rates[i] = numbers[1 + i] as i16;
         i += 1;
     }
     rates
 }
 
-fn volumes(sheet: &[u8]) -> [u64; 5]
-    requires { ⌜ length (now sheet) ≡ 109 ⌝ }
-    ensures { λ r. ⌜ r ≡ map natAbs (take 5 (drop 18 (allNumbers (now (sheet .entry))))) ⌝ }
+// The cast loses nothing where the kind has no sign.
+fn unsigned(numbers: &[i64; 25], i: usize) -> u64
+    requires { ⌜ (i < 25) × (nonNeg (getD (now numbers) i (pos 0)) ≡ true) ⌝ }
+    ensures { λ r. ⌜ r ≡ natAbs (getD (now (numbers .entry)) i (pos 0)) ⌝ }
+{
+    numbers[i] as u64
+}
+
+fn volumes(numbers: &[i64; 25]) -> [u64; 5]
+    requires { ⌜ AllInside (now numbers) ⌝ }
+    ensures { λ r. ⌜ r ≡ map natAbs (take 5 (drop 18 (now (numbers .entry)))) ⌝ }
 {
     let mut volumes = [0u64; 5];
     let mut i: usize = 0;
     while i < 5 {
-        volumes[i] = unsigned(sheet, 18 + i);
+        volumes[i] = unsigned(numbers, 18 + i);
         i += 1;
     }
     volumes
 }
 
-// Whether a volume is above 0.
+fn numbers_of(numbers: &[i64; 25]) -> Numbers
+    requires { ⌜ AllInside (now numbers) ⌝ }
+    ensures { λ r. ⌜ asNumbers r ≡ numbersOf (now (numbers .entry)) ⌝ }
+{
+    Numbers {
+        month: unsigned(numbers, 0),
+        rates: rates(numbers),
+        volumes: volumes(numbers),
+        ultimate: unsigned(numbers, 23),
+        limit: unsigned(numbers, 24),
+    }
+}
+
+// Whether a volume is above 0: ground 4's test.
 fn traded(volumes: [u64; 5]) -> bool
     ensures { λ r. ⌜ r ≡ ltb 0 (total volumes) ⌝ }
 {
@@ -309,55 +324,47 @@ fn traded(volumes: [u64; 5]) -> bool
     false
 }
 
-// The numbers of a sheet that passes grounds 1 to 3.
-fn numbers(sheet: &[u8]) -> Sheet
-    requires { ⌜ length (now sheet) ≡ 109 ⌝ }
-    ensures { λ r. ⌜ r ≡ holding SheetAnswer.Read (numbersOf (allNumbers (now (sheet .entry)))) ⌝ }
+fn refused(g: Ground) -> ReadSheet
+    ensures outcome { λ r. ⌜ asOutcome (r .verdict) (asNumbers (r .numbers)) ≡ refused (asGround g) ⌝ }
+    ensures beside { λ r. ⌜ asNumbers (r .numbers) ≡ noNumbers ⌝ }
 {
-    Sheet {
-        answer: SheetAnswer::Read,
-        month: unsigned(sheet, 0),
-        rates: rates(sheet),
-        volumes: volumes(sheet),
-        ultimate: unsigned(sheet, 23),
-        limit: unsigned(sheet, 24),
+    ReadSheet {
+        verdict: Verdict::Refused(g),
+        numbers: Numbers {
+            month: 0,
+            rates: [0i16; 17],
+            volumes: [0u64; 5],
+            ultimate: 0,
+            limit: 0,
+        },
     }
 }
 
-fn refused(answer: SheetAnswer) -> Sheet
-    ensures { λ r. ⌜ r ≡ holding answer noNumbers ⌝ }
-{
-    Sheet {
-        answer: answer,
-        month: 0,
-        rates: [0i16; 17],
-        volumes: [0u64; 5],
-        ultimate: 0,
-        limit: 0,
-    }
-}
-
-// For any bytes. Each ground is tried on the whole sheet before the next.
-pub fn read(sheet: &[u8]) -> Sheet
-    ensures outcome { λ r. ⌜ outcomeOf r ≡ readSheet (now (sheet .entry)) ⌝ }
-    ensures numbers { λ r. ⌜ numbersIn r ≡ heldIn (readSheet (now (sheet .entry))) ⌝ }
+// For any bytes. Each ground is tried on the whole sheet before the next (SPECIFICATION 2.3).
+pub fn read(sheet: &[u8]) -> ReadSheet
+    ensures outcome { λ r. ⌜ asOutcome (r .verdict) (asNumbers (r .numbers)) ≡ readSheet (now (sheet .entry)) ⌝ }
+    ensures beside { λ r. ⌜ asNumbers (r .numbers) ≡ resultOr noNumbers (readSheet (now (sheet .entry))) ⌝ }
 {
     if sheet.len() != 109 {
-        return refused(SheetAnswer::WrongLength);
+        return refused(Ground::WrongLength);
     }
-    let wrong = first_failure(sheet, Test::RightRecord);
+    let records = read_records(sheet);
+    let wrong = records.wrong;
     if wrong != 0 {
-        return refused(SheetAnswer::WrongRecord(wrong));
+        return refused(Ground::WrongRecord(wrong));
     }
-    let outside = first_failure(sheet, Test::InRange);
+    let outside = records.outside;
     if outside != 0 {
-        return refused(SheetAnswer::OutOfRange(outside));
+        return refused(Ground::OutOfRange(outside));
     }
-    let s = numbers(sheet);
-    let v = s.volumes;
-    if traded(v) {
-        s
-    } else {
-        refused(SheetAnswer::NoVolume)
+    let all = records.numbers;
+    let numbers = numbers_of(&all);
+    let volumes = numbers.volumes;
+    if !traded(volumes) {
+        return refused(Ground::NoVolume);
+    }
+    ReadSheet {
+        verdict: Verdict::Passed,
+        numbers: numbers,
     }
 }

@@ -1,5 +1,5 @@
--- `bootstrap` meets its contract: what is left to be worked from the walk is the whole.
-use mathlib.Core.Path.{_≡_, sym, ap, subst, _∙_}
+-- Invariant: what is left of the quotes, from the part so far, is the whole.
+use mathlib.Core.Path.{_≡_, refl, sym, ap, subst, _∙_}
 use mathlib.Core.List.{List}
 use Prim.Native.Nat.{ℕ, _-_, _≤_, _<_}
 use native.Mathlib.Omega.{arith}
@@ -9,26 +9,24 @@ use lib.Signed.{mag}
 use mir.Syntax.{w64}
 use mir.ValLaws.{toZ-ofZ}
 use borrow.Author.Needs.{needs}
-use borrow.Author.Tests.{not-true, not-false}
 use Rattle.method.specs.Sheet.{maturities}
-use Rattle.method.specs.Quotes.{yearsTo, quotesOf}
-use Rattle.years.specs.declared.QuotesAnswer.the-variants.{Worked}
-use Rattle.bootstrap.specs.declared.Walk.{Walk}
-use Rattle.years.specs.Years.{outcomeBy}
-use Rattle.bootstrap.specs.Walks.{walkOf, Reaches, quote}
-use Rattle.bootstrap.proofs.Order.{rate-fits, narrow-read, Going, going-start, reaches, going-stops, going-on, going-ends, ranges}
+use Rattle.method.specs.Quotes.{yearsTo}
+use Rattle.grounds.specs.Verdicts.{asOutcome}
+use Rattle.bootstrap.specs.declared.Liquid.{Liquid}
+use Rattle.bootstrap.specs.Liquids.{asBootstrap, asStep, nothing, Reaches, quote}
+use Rattle.bootstrap.proofs.Order.{rate-fits, narrow-read, Going, going-start, reaches, going-stops, going-on, going-ends}
 use Rattle.bootstrap.proofs.bootstrap.Statement.{statement}
 use Rattle.bootstrap.proofs.bootstrap.Tie as tie
 
-record Turns (rates : List ℤ) (walk : Walk) (i : ℕ) : Type 0 where
+record Quoted (rates : List ℤ) (w : Liquid) (i : ℕ) : Type 0 where
   long : length rates ≡ 17
-  going : Going rates walk i
+  going : Going rates w i
 
 abbrev Inv-loop : tie.InvT-loop
-Inv-loop rates walk₀ i₀ walk i = Turns rates walk i
+Inv-loop rates w₀ i₀ w i = Quoted rates w i
 
 abbrev μ-loop : tie.MeasureT-loop
-μ-loop rates walk₀ i₀ walk i = 17 - i
+μ-loop rates w₀ i₀ w i = 17 - i
 
 fresh-requires : tie.Need-fresh-requires Inv-loop μ-loop
 fresh-requires c κs = search needs
@@ -49,19 +47,19 @@ array-copy-out-years-to c = search needs
 
 -- the rate of quote i
 module _ (c : tie.After-years-to-arg Inv-loop μ-loop) where
-  abbrev at : tie.At-loop Inv-loop μ-loop
-  at = c .before .before .before
+  abbrev at-loop : tie.At-loop Inv-loop μ-loop
+  at-loop = c .before .before .before
 
   abbrev start : tie.Start Inv-loop μ-loop
-  start = at .before .before
+  start = at-loop .before .before
 
   abbrev rate : ℤ
-  rate = getD (start .args .t1) (at .loop .i) (pos 0)
+  rate = getD (start .args .t1) (at-loop .loop .i) (pos 0)
 
   small : mag rate ≤ 12_000
-  small = start .pre (at .loop .i)
+  small = start .pre (at-loop .loop .i)
 
-  early : at .loop .i < 17
+  early : at-loop .loop .i < 17
   early = c .before .before .loop-test .taken
 
 cast-years-to : tie.Need-cast-years-to Inv-loop μ-loop
@@ -69,34 +67,38 @@ cast-years-to c = rw (narrow-read (rate c) (small c)) (rate-fits (rate c) (small
 
 years-to-requires : tie.Need-years-to-requires Inv-loop μ-loop
 years-to-requires c κs =
-    let g = at c .loop .inv .going in
-    let reached = subst (Reaches (at c .loop .walk)) (sym (c .before .maturity .ensures)) (reaches g (early c)) in
+    let g = at-loop c .loop .inv .going in
+    let reached = subst (Reaches (at-loop c .loop .liquid)) (sym (c .before .maturity .ensures)) (reaches g (early c)) in
     rw (narrow-read (rate c) (small c), toZ-ofZ w64 _ (rate-fits (rate c) (small c))) (g .sound, reached, small c)
 
-worked-requires : tie.Need-worked-requires Inv-loop μ-loop
-worked-requires c κs = search needs
+enum-told : tie.Need-enum-told Inv-loop μ-loop
+enum-told c = search needs
 
-answered-requires : tie.Need-answered-requires Inv-loop μ-loop
-answered-requires c κs = search needs
+enum-told-2 : tie.Need-enum-told-2 Inv-loop μ-loop
+enum-told-2 c = search needs
+
+fresh-requires-2 : tie.Need-fresh-requires-2 Inv-loop μ-loop
+fresh-requires-2 c κs = search needs
 
 -- the quote's years, as the definition works them
 stepped : (c : tie.After-years-to Inv-loop μ-loop) →
-    let r = c .years-to .result in
-    outcomeBy (r .answer) (walkOf (r .walk)) ≡ yearsTo (quote (getD maturities (at (c .before) .loop .i) 0) (rate (c .before))) (walkOf (at (c .before) .loop .walk))
+    let l = at-loop (c .before) .loop in
+    asStep (c .years-to .result) ≡ yearsTo (quote (getD maturities (l .i) 0) (rate (c .before))) (asBootstrap (l .liquid))
 stepped c =
     let a = c .before in
     (rw (narrow-read (rate a) (small a), toZ-ofZ w64 _ (rate-fits (rate a) (small a))) at (c .years-to .ensures .0)) ∙
-    ap (λ (m : ℕ). yearsTo (quote m (rate a)) (walkOf (at a .loop .walk))) (a .before .maturity .ensures)
+    ap (λ (m : ℕ). yearsTo (quote m (rate a)) (asBootstrap (at-loop a .loop .liquid))) (a .before .maturity .ensures)
 
 returns : tie.Need-returns Inv-loop μ-loop
 returns c =
-    let w = c .before .before in
-    let y = w .before .before in
+    let told = c .before in
+    let y = told .before .before .before in
     let a = y .before in
-    let l = at a .loop .inv in
-    let r = y .years-to .result in
-    let whole = going-stops (l .going) (l .long) (early a) r (stepped y) (sym (w .worked .ensures) ∙ not-true _ (c .before .if1 .taken)) in
-    rw (c .answered .ensures) (whole, ranges (r .walk) (y .years-to .ensures .1) (r .answer) (quotesOf maturities (start a .args .t1)) whole)
+    let l = at-loop a .loop .inv in
+    let v = y .years-to .result .verdict in
+    let stops = going-stops (l .going) (early a) (l .long) v (y .years-to .result .liquid) (stepped y) (told .enum-told2 .given .1) nothing in
+    let f = c .fresh2 .ensures in
+    (ap (asOutcome v) (f .0) ∙ stops .0, (f .0 ∙ stops .1, f .1))
 
 add-i : tie.Need-add-i Inv-loop μ-loop
 add-i c = search needs
@@ -106,23 +108,17 @@ loop-less c = search needs
 
 loop-again : tie.Need-loop-again Inv-loop μ-loop
 loop-again c =
-    let w = c .before in
-    let y = w .before .before in
+    let y = c .before .before .before in
     let a = y .before in
-    let l = at a .loop .inv in
-    let works = sym (w .worked .ensures) ∙ not-false _ (c .if1 .left) in
-    record { long = l .long; going = going-on (l .going) (l .long) (early a) (y .years-to .result) (stepped y) works (y .years-to .ensures .1) }
-
-answered-requires-2 : tie.Need-answered-requires-2 Inv-loop μ-loop
-answered-requires-2 c κs = search needs
+    let l = at-loop a .loop .inv in
+    record { long = l .long; going = going-on (l .going) (early a) (l .long) _ _ (stepped y) (c .enum-told .given .1) (y .years-to .ensures .1) }
 
 returns-2 : tie.Need-returns-2 Inv-loop μ-loop
 returns-2 c =
-    let a = c .before .before in
-    let g = a .loop .inv .going in
-    let end : a .loop .i ≡ 17 = omega (arith, g .within, c .before .loop-test) in
-    let whole = going-ends (rw end at g) in
-    rw (c .answered2 .ensures) (whole, ranges (a .loop .walk) (g .sound) Worked (quotesOf maturities (a .before .before .args .t1)) whole)
+    let g = c .before .loop .inv .going in
+    let end : c .before .loop .i ≡ 17 = omega (arith, g .within, c .loop-test) in
+    let all = going-ends (rw end at g) in
+    (sym all, (rw all, g .sound))
 
 pub bootstrap-spec : {M : Type 1} → statement M
 bootstrap-spec =
@@ -137,11 +133,11 @@ bootstrap-spec =
     array-copy-out-years-to
     cast-years-to
     years-to-requires
-    worked-requires
-    answered-requires
+    enum-told
+    enum-told-2
+    fresh-requires-2
     returns
     add-i
     loop-less
     loop-again
-    answered-requires-2
     returns-2)

@@ -1,19 +1,25 @@
--- `fresh` meets its contract.
+-- Nothing is worked: both lists are empty, whatever the arrays hold.
 use mathlib.Core.Path.{refl, sym}
+use mathlib.Core.List.{zipWith}
 use native.Mathlib.Omega.{arith}
+use Rattle.method.specs.Ranges.{none}
 use Rattle.method.proofs.QuotesLaws.{annuity-none}
-use Rattle.method.proofs.QuotesBounds.{none}
-use Rattle.years.specs.Years.{pairsOf}
 use Rattle.bootstrap.proofs.fresh.Statement.{statement}
 use Rattle.bootstrap.proofs.fresh.Tie as tie
 
 returns : tie.Need-returns
-unfolding pairsOf
+unfolding zipWith
 returns c = (
   refl,
   record {
-    years = record { long-lows = refl; long-highs = refl; within = omega arith; sums = sym annuity-none; factors = none };
-    gaps = record { long-lows = refl; long-highs = refl; within = omega arith };
+    long-lows = refl;
+    long-highs = refl;
+    within = omega arith;
+    sums = sym annuity-none;
+    factors = none;
+    long-xlows = refl;
+    long-xhighs = refl;
+    gaps-within = omega arith;
   },
   refl,
   refl,

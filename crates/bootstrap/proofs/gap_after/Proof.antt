@@ -1,20 +1,21 @@
--- `gap_after` meets its contract.
+-- A and the last factor, whose ranges are those of the factors.
 use mathlib.Core.Path.{ap₂}
 use native.Mathlib.Omega.{arith}
 use mir.Syntax.{w64}
 use mir.ValLaws.{toZ-ofZ}
 use borrow.Author.Needs.{needs}
 use Rattle.method.specs.Units.{Pair}
-use Rattle.method.proofs.QuotesBounds.{Factor, lastYear-factor}
-use Rattle.par.specs.Sides.{pairOf}
-use Rattle.years.proofs.Soundness.{annuity-small}
+use Rattle.method.specs.Ranges.{Factor}
+use Rattle.method.proofs.QuotesBounds.{lastYear-factor}
+use Rattle.rounding.specs.Pairs.{asPair}
+use Rattle.bootstrap.proofs.Soundness.{annuity-small}
 use Rattle.bootstrap.proofs.gap_after.Statement.{statement}
 use Rattle.bootstrap.proofs.gap_after.Tie as tie
 
 last-year-requires : tie.Need-last-year-requires
 last-year-requires c κs = search needs
 
-start-factor : (c : tie.After-last-year) → Factor (pairOf (c .last-year .result))
+start-factor : (c : tie.After-last-year) → Factor (asPair (c .last-year .result))
 start-factor c = rw (c .last-year .ensures) (lastYear-factor (c .before .before .pre .0 .factors))
 
 returns : tie.Need-returns

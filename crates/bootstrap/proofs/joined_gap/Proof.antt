@@ -1,41 +1,31 @@
--- `joined_gap` meets its contract.
-use mathlib.Core.Path.{_∙_}
-use native.Mathlib.Omega.{arith}
-use lib.ListN.{length-set}
+-- The arrays with the gap set at their count.
+use mathlib.Core.Path.{refl}
 use borrow.Author.Needs.{needs}
-use Rattle.years.proofs.Pairs.{pairs-set}
+use Rattle.bootstrap.proofs.Soundness.{gap-joined, gap-sound}
 use Rattle.bootstrap.proofs.joined_gap.Statement.{statement}
 use Rattle.bootstrap.proofs.joined_gap.Tie as tie
 
-mul-lows : tie.Need-mul-lows
-mul-lows c = search needs
+mul-next : tie.Need-mul-next
+mul-next c = search needs
 
-array-write-lows : tie.Need-array-write-lows
-array-write-lows c = search needs
+element-write-next : tie.Need-element-write-next
+element-write-next c = search needs
 
-mul-highs : tie.Need-mul-highs
-mul-highs c = search needs
+mul-next-2 : tie.Need-mul-next-2
+mul-next-2 c = search needs
 
-array-write-highs : tie.Need-array-write-highs
-array-write-highs c = search needs
+element-write-next-2 : tie.Need-element-write-next-2
+element-write-next-2 c = search needs
 
-add-t6 : tie.Need-add-t6
-add-t6 c = search needs
+add-next : tie.Need-add-next
+add-next c = search needs
 
 returns : tie.Need-returns
 returns c =
-    let g = c .before .before .args .g in
-    let x = c .before .before .args .x in
-    let sound = c .before .before .pre .0 in
-    let room = c .before .before .pre .1 in (
-      pairs-set (g .count) (g .lows) (g .highs) (x .low) (x .high) (omega (arith, sound, room)) (omega (arith, sound, room)),
-      record {
-        long-lows = length-set (g .lows) (g .count) (x .low) ∙ sound .long-lows;
-        long-highs = length-set (g .highs) (g .count) (x .high) ∙ sound .long-highs;
-        within = omega (arith, room);
-      },
-    )
+    let p = c .pre in
+    (gap-joined (p .0) _ _ (p .1), gap-sound (p .0) _ _ (p .1), refl)
 
 pub joined-gap-spec : {M : Type 1} → statement M
 joined-gap-spec =
-    tie.close (tie.spec mul-lows array-write-lows mul-highs array-write-highs add-t6 returns)
+    tie.close
+    (tie.spec mul-next element-write-next mul-next-2 element-write-next-2 add-next returns)

@@ -1,4 +1,4 @@
--- `years_to` meets its contract: one year on, by par; else a gap.
+-- One year on comes by par; more than one is a gap.
 use mathlib.Core.Path.{sym, ap, _∙_}
 use Prim.Native.Nat.{ℕ, _-_}
 use native.Mathlib.Omega.{arith}
@@ -8,8 +8,8 @@ use borrow.Author.Needs.{needs}
 use borrow.Author.Tests.{ne-eqb}
 use Rattle.method.specs.Quotes.{gapYears}
 use Rattle.method.proofs.QuotesLaws.{years-next, years-gap}
-use Rattle.bootstrap.specs.Walks.{walkOf, quote}
-use Rattle.years.proofs.Soundness.{count-is}
+use Rattle.bootstrap.specs.Liquids.{asBootstrap, quote}
+use Rattle.bootstrap.proofs.Soundness.{count-is}
 use Rattle.bootstrap.proofs.years_to.Statement.{statement}
 use Rattle.bootstrap.proofs.years_to.Tie as tie
 
@@ -21,27 +21,27 @@ par-year-requires c κs = search needs
 
 gap-years-requires : tie.Need-gap-years-requires
 gap-years-requires c κs =
-    let s = c .before .before in
+    let s = c .before in
     let r = s .pre .1 in
     let room = rw (ne-eqb _ 1 (c .if1 .left)) at (r .gaps) in
     rw (toZ-ofZ w64 _ (s .fits .rate)) (s .pre .0, omega (arith, r), r .short, omega (arith, r), omega (arith, room), s .pre .2)
 
 returns : tie.Need-returns
 returns c =
-    let s = c .before .before .before in
+    let s = c .before .before in
     let q = quote (s .args .maturity) (s .args .rate) in
-    let count = count-is (s .pre .0 .years) in
     let par = rw (toZ-ofZ w64 _ (s .fits .rate)) at (c .par-year .ensures .0) in
-    (par ∙ sym (years-next q (walkOf (s .args .w)) (rw count (c .before .if1 .taken))), c .par-year .ensures .1)
+    (par ∙ sym (years-next q (asBootstrap (s .args .w)) (rw (count-is (s .pre .0)) (c .before .if1 .taken))), c .par-year .ensures .1)
 
 returns-2 : tie.Need-returns-2
 returns-2 c =
-    let s = c .before .before .before in
+    let s = c .before .before in
     let q = quote (s .args .maturity) (s .args .rate) in
-    let count = count-is (s .pre .0 .years) in
+    let b = asBootstrap (s .args .w) in
+    let count = count-is (s .pre .0) in
     let gap = rw (toZ-ofZ w64 _ (s .fits .rate)) at (c .gap-years .ensures .0) in
-    let years = ap (λ (n : ℕ). gapYears (s .args .maturity - n) (s .args .rate) (walkOf (s .args .w))) count in
-    (gap ∙ sym (years-gap q (walkOf (s .args .w)) (rw count (c .before .if1 .left)) ∙ years), c .gap-years .ensures .1)
+    let years = ap (λ (n : ℕ). gapYears (s .args .maturity - n) (s .args .rate) b) count in
+    (gap ∙ sym (years-gap q b (rw count (c .before .if1 .left)) ∙ years), c .gap-years .ensures .1)
 
 pub years-to-spec : {M : Type 1} → statement M
 years-to-spec = tie.close (tie.spec sub-k par-year-requires gap-years-requires returns returns-2)

@@ -1,19 +1,9 @@
--- `all_years` meets its contract: the last factor from the quotes and the two forwards are as the extrapolation asks.
-use mathlib.Core.Path.{_≡_}
-use native.Mathlib.Omega.{arith}
-use lib.ListN.{length}
-use Rattle.sheet.specs.Answer.{numbersIn}
+-- The last factor from the quotes and the two forwards are as the extrapolation asks.
 use Rattle.method.proofs.Enclosure as method
-use Rattle.curve.proofs.Extending.{usable, last-in-range, extends}
+use Rattle.curve.proofs.Extending.{usable, in-range-20, extends}
 use borrow.Author.Needs.{needs}
 use Rattle.curve.proofs.all_years.Statement.{statement}
 use Rattle.curve.proofs.all_years.Tie as tie
-
-long-lows : (s : tie.Start) → length (s .args .q .lows) ≡ 50
-long-lows s = search needs
-
-long-highs : (s : tie.Start) → length (s .args .q .highs) ≡ 50
-long-highs s = search needs
 
 ultimate-forward-requires : tie.Need-ultimate-forward-requires
 ultimate-forward-requires c κs = search needs
@@ -24,28 +14,30 @@ last-liquid-forward-requires c κs = search needs
 first-years-requires : tie.Need-first-years-requires
 first-years-requires c κs = search needs
 
-first-years-requires-2 : tie.Need-first-years-requires-2
-first-years-requires-2 c κs = search needs
-
 extrapolate-requires : tie.Need-extrapolate-requires
 extrapolate-requires c κs =
-    let s = c .before .before .before .before .before .before .before .before .before in
-    let n = s .pre .numbers in
-    let l = c .before .before .before .ultimate-forward in
-    let f = c .before .before .last-liquid-forward in (
-      usable (l .result) (l .ensures .0) (l .ensures .1) (method.ultimateForward-ordered _ (n .ultimate-most)),
-      usable (f .result) (f .ensures .0) (f .ensures .1) (method.llfr-ordered _ (method.usable _ n) (s .pre .worked)),
-      rw (c .before .first-years .ensures, c .first-years2 .ensures) (last-in-range (s .args .q .lows) (s .args .q .highs) (long-lows s) (long-highs s) (s .pre .ranges .factors 19 (omega arith))),
+    let at-liquid = c .before in
+    let at-ultimate = at-liquid .before in
+    let s = at-ultimate .before in
+    let l = at-ultimate .ultimate-forward in
+    let f = at-liquid .last-liquid-forward in
+    let years = c .first-years .ensures in (
+      usable (l .result) (l .ensures .0) (l .ensures .1) (method.ultimateForward-ordered _ (s .pre .numbers .ultimate-most)),
+      usable (f .result) (f .ensures .0) (f .ensures .1) (method.llfr-ordered _ (method.usable _ (s .pre .numbers)) (s .pre .worked)),
+      in-range-20 (s .pre) (c .first-years .result) (years .0) (years .1),
     )
 
 returns : tie.Need-returns
 returns c =
-    let s = c .before .before .before .before .before .before .before .before .before .before in
-    let l = c .before .before .before .before .ultimate-forward in
-    let f = c .before .before .before .last-liquid-forward in
-    let years = c .extrapolate in
-    extends (numbersIn (s .args .s)) (s .args .q) (years .result) (long-lows s) (long-highs s) (l .ensures .0) (f .ensures .0)
-    (c .before .before .first-years .ensures) (c .before .first-years2 .ensures) (years .ensures .0) (years .ensures .1)
+    let at-years = c .before in
+    let at-liquid = at-years .before in
+    let at-ultimate = at-liquid .before in
+    let years = at-years .first-years in
+    extends (at-ultimate .before .pre) (years .result) (years .ensures .0) (years .ensures .1) (c .extrapolate .result)
+    (at-ultimate .ultimate-forward .ensures .0)
+    (at-liquid .last-liquid-forward .ensures .0)
+    (c .extrapolate .ensures .0)
+    (c .extrapolate .ensures .1)
 
 pub all-years-spec : {M : Type 1} → statement M
 all-years-spec =
@@ -54,6 +46,5 @@ all-years-spec =
     ultimate-forward-requires
     last-liquid-forward-requires
     first-years-requires
-    first-years-requires-2
     extrapolate-requires
     returns)

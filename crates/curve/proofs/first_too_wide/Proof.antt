@@ -1,4 +1,4 @@
--- `first_too_wide` meets its contract: no year before the one that the loop has come to is too wide.
+-- Invariant: no year before the one that the loop has come to is too wide.
 use mathlib.Core.Path.{_≡_, refl, sym, _∙_}
 use mathlib.Core.List.{List}
 use Prim.Native.Nat.{ℕ, _-_, _≤_}
@@ -6,7 +6,8 @@ use native.Mathlib.Omega.{arith}
 use lib.ListN.{length}
 use borrow.Author.Needs.{needs}
 use Rattle.method.specs.Extrapolation.{firstTooWide}
-use Rattle.extrapolation.specs.Extrapolated.{pairsOf}
+use Rattle.extrapolation.specs.declared.Years.{Years}
+use Rattle.extrapolation.specs.Extrapolated.{asYears}
 use Rattle.curve.proofs.TooWide.{wideFrom, narrow-here, wide-here, none-left}
 use Rattle.curve.proofs.first_too_wide.Statement.{statement}
 use Rattle.curve.proofs.first_too_wide.Tie as tie
@@ -14,64 +15,57 @@ use Rattle.curve.proofs.first_too_wide.Reads as reads
 use Rattle.curve.proofs.first_too_wide.Lts as lts
 use Rattle.curve.proofs.band.Reads as band-reads
 
-record Left (limit : ℕ) (lows highs : List ℕ) (i : ℕ) : Type 0 where
+record Left (limit : ℕ) (years : Years) (i : ℕ) : Type 0 where
   within : i ≤ 150
-  long-lows : length lows ≡ 150
-  long-highs : length highs ≡ 150
-  left : firstTooWide limit 1 (pairsOf lows highs) ≡ wideFrom limit lows highs i
+  long-lows : length (years .lows) ≡ 150
+  long-highs : length (years .highs) ≡ 150
+  left : firstTooWide limit 1 (asYears years) ≡ wideFrom limit (years .lows) (years .highs) i
 
 abbrev Inv-loop : tie.InvT-loop
-Inv-loop limit lows highs i₀ i = Left limit lows highs i
+Inv-loop limit years i₀ i = Left limit years i
 
 abbrev μ-loop : tie.MeasureT-loop
-μ-loop limit lows highs i₀ i = 150 - i
+μ-loop limit years i₀ i = 150 - i
 
--- src/lib.rt:85:5
 loop-holds : tie.Need-loop-holds Inv-loop μ-loop
 loop-holds c = record { within = search needs; long-lows = search needs; long-highs = search needs; left = refl }
 
--- src/lib.rt:86:25
 mul-band : tie.Need-mul-band Inv-loop μ-loop
 mul-band c = search needs
 
--- src/lib.rt:86:25
-array-read-band : tie.Need-array-read-band Inv-loop μ-loop
-array-read-band c = search needs
+element-copy-out-band : tie.Need-element-copy-out-band Inv-loop μ-loop
+element-copy-out-band c = search needs
 
--- src/lib.rt:86:34
 mul-band-2 : tie.Need-mul-band-2 Inv-loop μ-loop
 mul-band-2 c = search needs
 
--- src/lib.rt:86:34
-array-read-band-2 : tie.Need-array-read-band-2 Inv-loop μ-loop
-array-read-band-2 c = search needs
+element-copy-out-band-2 : tie.Need-element-copy-out-band-2 Inv-loop μ-loop
+element-copy-out-band-2 c = search needs
 
--- src/lib.rt:86:20
 band-requires : tie.Need-band-requires Inv-loop μ-loop
 band-requires c κs = search needs
 
--- src/lib.rt:87:20
 add-result : tie.Need-add-result Inv-loop μ-loop
 add-result c = search needs
 
--- src/lib.rt:87:13
 returns : tie.Need-returns Inv-loop μ-loop
 returns c =
-    let l = c .before .before .before .loop in
+    let at-band = c .before in
+    let at-test = at-band .before .before .before in
+    let l = at-test .before .loop in
     sym (l .inv .left ∙ wide-here _ _ _ (omega arith) (l .i) (omega arith) (omega arith))
 
--- src/lib.rt:89:9
 add-i : tie.Need-add-i Inv-loop μ-loop
 add-i c = search needs
 
--- src/lib.rt:85:5
 loop-less : tie.Need-loop-less Inv-loop μ-loop
 loop-less c = search needs
 
--- src/lib.rt:85:5
 loop-again : tie.Need-loop-again Inv-loop μ-loop
 loop-again c =
-    let l = c .before .before .before .loop in
+    let at-band = c .before in
+    let at-test = at-band .before .before .before in
+    let l = at-test .before .loop in
     record {
       within = omega arith;
       long-lows = l .inv .long-lows;
@@ -79,7 +73,6 @@ loop-again c =
       left = l .inv .left ∙ narrow-here _ _ _ (omega arith) (l .i) (omega arith) (omega arith);
     }
 
--- src/lib.rt:81:1
 returns-2 : tie.Need-returns-2 Inv-loop μ-loop
 returns-2 c =
     let l = c .before .loop in
@@ -93,9 +86,9 @@ first-too-wide-spec =
     μ-loop
     loop-holds
     mul-band
-    array-read-band
+    element-copy-out-band
     mul-band-2
-    array-read-band-2
+    element-copy-out-band-2
     band-requires
     add-result
     returns

@@ -1,34 +1,61 @@
--- `first_years` meets its contract: the zeros, with as many of the factors as the loop has copied.
-use mathlib.Core.Path.{refl}
-use Prim.Native.Nat.{_-_}
+-- Invariant: the zeros, with as many of the factors as the loop has copied.
+use mathlib.Core.Path.{_≡_, refl}
+use Prim.Native.Nat.{ℕ, _-_}
 use native.Mathlib.Omega.{arith}
 use lib.Dec.{lit≤}
-use lib.ListN.{replicate}
+use lib.ListN.{length, replicate}
 use borrow.Author.Needs.{needs}
+use Rattle.bootstrap.specs.declared.Liquid.{Liquid}
+use Rattle.extrapolation.specs.declared.Years.{Years}
 use Rattle.curve.proofs.Copying.{Copied, copied-none, copied-more, copied-all}
 use Rattle.curve.proofs.first_years.Statement.{statement}
 use Rattle.curve.proofs.first_years.Tie as tie
+use Rattle.curve.proofs.first_years.Reads as reads
+use Rattle.curve.proofs.first_years.Lts as lts
+
+record BothCopied (q : Liquid) (years : Years) (i : ℕ) : Type 0 where
+  lows : Copied (replicate 150 0) (q .lows) (years .lows) 20 i
+  highs : Copied (replicate 150 0) (q .highs) (years .highs) 20 i
 
 abbrev Inv-loop : tie.InvT-loop
-Inv-loop factors years₀ i₀ years i = Copied (replicate 150 0) factors years 20 i
+Inv-loop q years₀ i₀ years i = BothCopied q years i
 
 abbrev μ-loop : tie.MeasureT-loop
-μ-loop factors years₀ i₀ years i = 20 - i
+μ-loop q years₀ i₀ years i = 20 - i
 
 loop-holds : tie.Need-loop-holds Inv-loop μ-loop
-loop-holds c = copied-none (replicate 150 0) (c .args .t1) (replicate 150 0) 20 (lit≤ tt) (omega arith) refl
+loop-holds c =
+    let q = c .args .t1 in
+    let lows : length (q .lows) ≡ 50 = search needs in
+    let highs : length (q .highs) ≡ 50 = search needs in
+    record {
+      lows = copied-none (replicate 150 0) (q .lows) (replicate 150 0) 20 (lit≤ tt) (omega (arith, lows)) refl;
+      highs = copied-none (replicate 150 0) (q .highs) (replicate 150 0) 20 (lit≤ tt) (omega (arith, highs)) refl;
+    }
 
 mul-years : tie.Need-mul-years Inv-loop μ-loop
 mul-years c = search needs
 
-array-read-years : tie.Need-array-read-years Inv-loop μ-loop
-array-read-years c = search needs
+element-copy-out-years : tie.Need-element-copy-out-years Inv-loop μ-loop
+element-copy-out-years c = search needs
 
 mul-years-2 : tie.Need-mul-years-2 Inv-loop μ-loop
 mul-years-2 c = search needs
 
-array-write-years : tie.Need-array-write-years Inv-loop μ-loop
-array-write-years c = search needs
+element-write-years : tie.Need-element-write-years Inv-loop μ-loop
+element-write-years c = search needs
+
+mul-years-3 : tie.Need-mul-years-3 Inv-loop μ-loop
+mul-years-3 c = search needs
+
+element-copy-out-years-2 : tie.Need-element-copy-out-years-2 Inv-loop μ-loop
+element-copy-out-years-2 c = search needs
+
+mul-years-4 : tie.Need-mul-years-4 Inv-loop μ-loop
+mul-years-4 c = search needs
+
+element-write-years-2 : tie.Need-element-write-years-2 Inv-loop μ-loop
+element-write-years-2 c = search needs
 
 add-i : tie.Need-add-i Inv-loop μ-loop
 add-i c = search needs
@@ -37,10 +64,22 @@ loop-less : tie.Need-loop-less Inv-loop μ-loop
 loop-less c = search needs
 
 loop-again : tie.Need-loop-again Inv-loop μ-loop
-loop-again c = copied-more (replicate 150 0) (c .before .before .args .t1) (c .before .loop .years) 20 (c .before .loop .i) (c .before .loop .inv) (c .loop-test .taken)
+loop-again c =
+    let at-test = c .before .before in
+    let l = at-test .before .loop in
+    let q = at-test .before .before .args .t1 in
+    record {
+      lows = copied-more (replicate 150 0) (q .lows) (l .years .lows) 20 (l .i) (l .inv .lows) (at-test .loop-test .taken);
+      highs = copied-more (replicate 150 0) (q .highs) (l .years .highs) 20 (l .i) (l .inv .highs) (at-test .loop-test .taken);
+    }
 
 returns : tie.Need-returns Inv-loop μ-loop
-returns c = copied-all (replicate 150 0) (c .before .before .args .t1) (c .before .loop .years) 20 (c .before .loop .i) (c .before .loop .inv) (c .loop-test .left)
+returns c =
+    let l = c .before .loop in
+    let q = c .before .before .args .t1 in (
+      copied-all (replicate 150 0) (q .lows) (l .years .lows) 20 (l .i) (l .inv .lows) (c .loop-test .left),
+      copied-all (replicate 150 0) (q .highs) (l .years .highs) 20 (l .i) (l .inv .highs) (c .loop-test .left),
+    )
 
 pub first-years-spec : {M : Type 1} → statement M
 first-years-spec =
@@ -50,9 +89,13 @@ first-years-spec =
     μ-loop
     loop-holds
     mul-years
-    array-read-years
+    element-copy-out-years
     mul-years-2
-    array-write-years
+    element-write-years
+    mul-years-3
+    element-copy-out-years-2
+    mul-years-4
+    element-write-years-2
     add-i
     loop-less
     loop-again

@@ -1,19 +1,19 @@
--- `from_quotes` meets its contract: ground 8 on the extrapolated years, then ground 10 on all.
-use mathlib.Core.Path.{_≡_, sym, ap, _∙_}
-use lib.ListN.{length, drop}
-use Rattle.method.specs.Curve.{smoothingYear}
-use Rattle.extrapolation.specs.Extrapolated.{pairsOf, outcomeFor}
-use Rattle.extrapolation.specs.declared.LaterAnswer.{LaterAnswer}
-use Rattle.curve.specs.Years.{bootstrapIn}
+-- Ground 8 on the extrapolated years, then ground 10 on all.
+use mathlib.Core.Path.{_≡_, refl, sym, ap, _∙_}
+use lib.ListN.{length}
+use Rattle.bootstrap.specs.Liquids.{asBootstrap}
+use Rattle.grounds.specs.Verdicts.{resultOr}
+use Rattle.grounds.proofs.Chain.{at-verdict, refused-alone}
+use Rattle.curve.specs.Curves.{noCurve}
 use Rattle.curve.proofs.Laws.{later-refused, years-banded}
 use borrow.Author.Needs.{needs}
 use Rattle.curve.proofs.from_quotes.Statement.{statement}
 use Rattle.curve.proofs.from_quotes.Tie as tie
 
-same : (y : tie.After-all-years) → length (y .all-years .result .lows) ≡ length (y .all-years .result .highs)
+same : (y : tie.After-all-years) → length (y .all-years .result .years .lows) ≡ length (y .all-years .result .years .highs)
 same y =
-    let lows : length (y .all-years .result .lows) ≡ 150 = search needs in
-    let highs : length (y .all-years .result .highs) ≡ 150 = search needs in
+    let lows : length (y .all-years .result .years .lows) ≡ 150 = search needs in
+    let highs : length (y .all-years .result .years .highs) ≡ 150 = search needs in
     lows ∙ sym highs
 
 all-years-requires : tie.Need-all-years-requires
@@ -22,32 +22,37 @@ all-years-requires c κs = search needs
 enum-told : tie.Need-enum-told
 enum-told c = search needs
 
-judged-requires : tie.Need-judged-requires
-judged-requires c κs = search needs
+enum-told-2 : tie.Need-enum-told-2
+enum-told-2 c = search needs
 
-enum-known-answer : tie.Need-enum-known-answer
-enum-known-answer c = search needs
-
-refused-requires : tie.Need-refused-requires
-refused-requires c κs = search needs
+unworked-requires : tie.Need-unworked-requires
+unworked-requires c κs = search needs
 
 returns : tie.Need-returns
 returns c =
-    let y = c .before .before .before .before .before .all-years in
-    let s = c .before .before .before .before .before .before in
-    let e = y .ensures in
-    c .judged .ensures
-    ∙ sym (years-banded _ (bootstrapIn (s .args .q)) (s .pre .worked) (y .result .lows) (y .result .highs) (same (c .before .before .before .before .before)) (e .quoted)
-    (sym (e .later) ∙ ap (λ (a : LaterAnswer). outcomeFor a (drop smoothingYear (pairsOf (y .result .lows) (y .result .highs)))) (c .before .before .before .enum-told .given .1)))
+    let at-years = c .before .before .before in
+    let s = at-years .before in
+    let told = c .before .enum-told2 .given .1 in
+    let years = at-years .all-years in
+    refused-alone (c .unworked .ensures .0) told (c .unworked .ensures .1)
+    (later-refused _ (asBootstrap (s .args .q)) (s .pre .worked) (at-verdict _ told (years .ensures .later)))
+
+judged-requires : tie.Need-judged-requires
+judged-requires c κs = search needs
 
 returns-2 : tie.Need-returns-2
 returns-2 c =
-    let y = c .before .before .before .before .all-years in
-    let s = c .before .before .before .before .before in
-    let e = y .ensures in
-    c .refused .ensures
-    ∙ sym (later-refused _ (bootstrapIn (s .args .q)) (s .pre .worked)
-    (sym (e .later) ∙ ap (λ (a : LaterAnswer). outcomeFor a (drop smoothingYear (pairsOf (y .result .lows) (y .result .highs)))) (c .before .before .answer .given .1)))
+    let at-told = c .before .before in
+    let at-years = at-told .before .before in
+    let s = at-years .before in
+    let years = at-years .all-years in
+    let later = at-verdict _ (at-told .enum-told .given .1) (years .ensures .later) in
+    let worked =
+    years-banded _ (asBootstrap (s .args .q)) (s .pre .worked) (years .result .years .lows) (years .result .years .highs)
+    (same at-years)
+    (years .ensures .quoted)
+    later in
+    (c .judged .ensures .0 ∙ sym worked, c .judged .ensures .1 ∙ ap (resultOr noCurve) (sym worked))
 
 pub from-quotes-spec : {M : Type 1} → statement M
 from-quotes-spec =
@@ -55,8 +60,8 @@ from-quotes-spec =
     (tie.spec
     all-years-requires
     enum-told
-    judged-requires
-    enum-known-answer
-    refused-requires
+    enum-told-2
+    unworked-requires
     returns
+    judged-requires
     returns-2)

@@ -1,7 +1,9 @@
--- `judged` meets its contract: the test of ground 10.
-use mathlib.Core.Path.{sym, ap, _∙_}
+-- Ground 10: the first year too wide, or none.
+use mathlib.Core.Path.{refl, sym, ap, _∙_}
 use Prim.Native.Nat.{ℕ}
 use Rattle.method.specs.Grounds.{refused, bandTooWide}
+use Rattle.grounds.proofs.Chain.{refused-alone}
+use Rattle.curve.specs.Curves.{asCurve}
 use Rattle.curve.proofs.Laws.{banded-done, banded-refused}
 use borrow.Author.Needs.{needs}
 use Rattle.curve.proofs.judged.Statement.{statement}
@@ -10,16 +12,17 @@ use Rattle.curve.proofs.judged.Tie as tie
 first-too-wide-requires : tie.Need-first-too-wide-requires
 first-too-wide-requires c κs = search needs
 
-returns : tie.Need-returns
-returns c = sym (banded-done _ (sym (c .before .first-too-wide .ensures) ∙ c .if1 .taken))
+unworked-requires : tie.Need-unworked-requires
+unworked-requires c κs = search needs
 
-refused-requires : tie.Need-refused-requires
-refused-requires c κs = search needs
+returns : tie.Need-returns
+returns c =
+    let wide = c .before .before .first-too-wide in
+    let too-wide = banded-refused _ (λ e. c .before .if1 .taken (wide .ensures ∙ e)) in
+    refused-alone (c .unworked .ensures .0) refl (c .unworked .ensures .1) (too-wide ∙ ap (λ (t : ℕ). refused (bandTooWide t)) (sym (wide .ensures)))
 
 returns-2 : tie.Need-returns-2
-returns-2 c =
-    let wide = c .before .before .first-too-wide in
-    c .refused .ensures ∙ ap (λ (t : ℕ). refused (bandTooWide t)) (wide .ensures) ∙ sym (banded-refused _ (λ e. c .before .if1 .left (wide .ensures ∙ e)))
+returns-2 c = rw (banded-done (asCurve (c .before .before .before .args .c)) (sym (c .before .first-too-wide .ensures) ∙ c .if1 .left)) (refl, refl)
 
 pub judged-spec : {M : Type 1} → statement M
-judged-spec = tie.close (tie.spec first-too-wide-requires returns refused-requires returns-2)
+judged-spec = tie.close (tie.spec first-too-wide-requires unworked-requires returns returns-2)

@@ -1,4 +1,4 @@
--- `last_five` meets its contract: the array spelled out entry by entry.
+-- The array is spelled out entry by entry.
 use mathlib.Core.Path.{ap}
 use lib.ListN.{drop}
 use borrow.Author.Needs.{needs}

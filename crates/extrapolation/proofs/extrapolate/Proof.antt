@@ -1,85 +1,90 @@
--- `extrapolate` meets its contract.
+-- Invariant: what is left, put after the years that are written, is the whole extrapolation.
 use mathlib.Core.Path.{_≡_, sym}
-use Prim.Native.Nat.{_+_, _-_}
+use Prim.Native.Nat.{_-_}
 use native.Mathlib.Nat.{le-trans}
+use lib.ListN.{getD}
+use Rattle.rounding.specs.Pairs.{asPair, asSignedPair}
+use Rattle.extrapolation.specs.Extrapolated.{Weight}
+use Rattle.extrapolation.proofs.LaterYears.{kept-refused, kept-worked, Reached, at-start, next, at-refusal, at-end, after-year}
 use borrow.Author.Needs.{needs}
-use Rattle.series.specs.Series.{forwardOf}
-use Rattle.extrapolation.specs.Extrapolated.{factorOf}
-use Rattle.extrapolation.proofs.Years.{kept-refused, kept-worked, Reached, at-start, next, next-is, current-in-range, at-refusal, at-end, after-year}
 use Rattle.extrapolation.proofs.extrapolate.Statement.{statement}
 use Rattle.extrapolation.proofs.extrapolate.Tie as tie
 
 abbrev Inv-loop : tie.InvT-loop
-Inv-loop l f lows highs later-lows₀ later-highs₀ i₀ later-lows later-highs i = Reached (forwardOf l) (forwardOf f) lows highs later-lows later-highs i
+Inv-loop l f years k lows₀ highs₀ p₀ i₀ lows highs p i = Reached (asSignedPair l) (asSignedPair f) years (record { lows = lows; highs = highs }) (asPair p) i
 
 abbrev μ-loop : tie.MeasureT-loop
-μ-loop l f lows highs later-lows₀ later-highs₀ i₀ later-lows later-highs i = 130 - i
+μ-loop l f years k lows₀ highs₀ p₀ i₀ lows highs p i = 130 - i
+
+weights-requires : tie.Need-weights-requires Inv-loop μ-loop
+weights-requires c κs = search needs
+
+array-read-t12 : tie.Need-array-read-t12 Inv-loop μ-loop
+array-read-t12 c = search needs
+
+array-read-t15 : tie.Need-array-read-t15 Inv-loop μ-loop
+array-read-t15 c = search needs
 
 loop-holds : tie.Need-loop-holds Inv-loop μ-loop
-loop-holds c = at-start (forwardOf (c .args .l)) (forwardOf (c .args .f)) (search needs) (search needs) (c .pre .2)
+loop-holds c =
+    let s = c .before .before .before in
+    at-start (asSignedPair (s .args .l)) (asSignedPair (s .args .f)) (s .args .years) (search needs) (search needs) (s .pre .2)
 
-add-forward : tie.Need-add-forward Inv-loop μ-loop
-add-forward c = search needs
+mul-next-year : tie.Need-mul-next-year Inv-loop μ-loop
+mul-next-year c = search needs
 
-mul-forward : tie.Need-mul-forward Inv-loop μ-loop
-mul-forward c = search needs
+array-read-next-year : tie.Need-array-read-next-year Inv-loop μ-loop
+array-read-next-year c = search needs
 
-array-read-forward : tie.Need-array-read-forward Inv-loop μ-loop
-array-read-forward c = search needs
+-- where a pass begins, and the weight of its year
+module _ (at : tie.At-loop Inv-loop μ-loop) where
+  abbrev worked : tie.After-weights Inv-loop μ-loop
+  worked = at .before .before .before
 
-add-t16 : tie.Need-add-t16 Inv-loop μ-loop
-add-t16 c = search needs
+  abbrev start : tie.Start Inv-loop μ-loop
+  start = worked .before
 
-mul-t17 : tie.Need-mul-t17 Inv-loop μ-loop
-mul-t17 c = search needs
+weight : (c : tie.In-loop Inv-loop μ-loop) → Weight (c .before .loop .i) (getD (worked (c .before) .weights .result) (c .before .loop .i) 0)
+weight c = worked (c .before) .weights .ensures (c .before .loop .i) (search needs)
 
-array-read-t20 : tie.Need-array-read-t20 Inv-loop μ-loop
-array-read-t20 c = search needs
+next-year-requires : tie.Need-next-year-requires Inv-loop μ-loop
+next-year-requires c κs =
+    let s = start (c .before) in
+    let p = c .before .loop .inv .current in
+    (s .pre .0 .size, s .pre .1 .size, weight c .below-U, record { low = le-trans (p .ordered) (p .at-most); high = p .at-most })
 
-k-at-requires : tie.Need-k-at-requires Inv-loop μ-loop
-k-at-requires c κs = search needs
+-- the year of a pass is the definition's
+year-is : (c : tie.After-next-year Inv-loop μ-loop) →
+    let at = c .before .before in
+    let a = start at .args in
+    asPair (c .next-year .result) ≡ next (asSignedPair (a .l)) (asSignedPair (a .f)) (at .loop .i) (asPair (at .loop .p))
+year-is c = rw (← weight (c .before) .tabled) (c .next-year .ensures)
 
-forward-requires : tie.Need-forward-requires Inv-loop μ-loop
-forward-requires c κs = let s = c .before .before .before in (s .pre .0 .bounded, s .pre .1 .bounded, c .k-at .ensures .1)
-
-step-requires : tie.Need-step-requires Inv-loop μ-loop
-step-requires c κs =
-    let p = current-in-range (c .before .before .before .loop .inv) in
-    (c .forward .ensures .1, le-trans (p .ordered) (p .at-most), p .at-most)
-
-add-t23 : tie.Need-add-t23 Inv-loop μ-loop
-add-t23 c = search needs
-
--- the year that a turn works is the definition's
-year-is : (c : tie.After-step Inv-loop μ-loop) →
-    let at = c .before .before .before .before in
-    factorOf (c .step .result) ≡ next (forwardOf (at .before .args .l)) (forwardOf (at .before .args .f)) (at .loop .later-lows) (at .loop .later-highs) (at .loop .i)
-year-is c =
-    let at = c .before .before .before .before .loop in
-    next-is _ _ (at .later-lows) (at .later-highs) (at .i) (c .before .before .k-at .ensures .0) (c .before .forward .ensures .0) (c .step .ensures)
+add-t22 : tie.Need-add-t22 Inv-loop μ-loop
+add-t22 c = search needs
 
 returns : tie.Need-returns Inv-loop μ-loop
 returns c =
-    let at = c .before .before .before .before .before .before in
-    (sym (at-refusal (at .loop .inv) (search needs) (year-is (c .before .before)) (c .if1 .taken)), kept-refused (at .before .args .lows) (at .before .args .highs) (21 + at .loop .i))
+    let y = c .before .before in
+    (sym (at-refusal (y .before .before .loop .inv) (search needs) (year-is y) (c .if1 .taken)), kept-refused _ _)
 
-add-later-lows : tie.Need-add-later-lows Inv-loop μ-loop
-add-later-lows c = search needs
+add-lows : tie.Need-add-lows Inv-loop μ-loop
+add-lows c = search needs
 
-mul-later-lows : tie.Need-mul-later-lows Inv-loop μ-loop
-mul-later-lows c = search needs
+mul-lows : tie.Need-mul-lows Inv-loop μ-loop
+mul-lows c = search needs
 
-array-write-later-lows : tie.Need-array-write-later-lows Inv-loop μ-loop
-array-write-later-lows c = search needs
+array-write-lows : tie.Need-array-write-lows Inv-loop μ-loop
+array-write-lows c = search needs
 
-add-later-highs : tie.Need-add-later-highs Inv-loop μ-loop
-add-later-highs c = search needs
+add-highs : tie.Need-add-highs Inv-loop μ-loop
+add-highs c = search needs
 
-mul-later-highs : tie.Need-mul-later-highs Inv-loop μ-loop
-mul-later-highs c = search needs
+mul-highs : tie.Need-mul-highs Inv-loop μ-loop
+mul-highs c = search needs
 
-array-write-later-highs : tie.Need-array-write-later-highs Inv-loop μ-loop
-array-write-later-highs c = search needs
+array-write-highs : tie.Need-array-write-highs Inv-loop μ-loop
+array-write-highs c = search needs
 
 add-i : tie.Need-add-i Inv-loop μ-loop
 add-i c = search needs
@@ -89,8 +94,10 @@ loop-less c = search needs
 
 loop-again : tie.Need-loop-again Inv-loop μ-loop
 loop-again c =
-    let at = c .before .before .before .before .before .before in
-    after-year (at .loop .inv) (search needs) (year-is (c .before .before)) (c .if1 .left) (at .before .pre .0 .ordered) (at .before .pre .1 .ordered)
+    let y = c .before .before in
+    let at = y .before .before in
+    let s = start at in
+    after-year (at .loop .inv) (search needs) (year-is y) (c .if1 .left) (s .pre .0 .ordered) (s .pre .1 .ordered)
 
 returns-2 : tie.Need-returns-2 Inv-loop μ-loop
 returns-2 c =
@@ -103,24 +110,21 @@ extrapolate-spec =
     (tie.spec
     Inv-loop
     μ-loop
+    weights-requires
+    array-read-t12
+    array-read-t15
     loop-holds
-    add-forward
-    mul-forward
-    array-read-forward
-    add-t16
-    mul-t17
-    array-read-t20
-    k-at-requires
-    forward-requires
-    step-requires
-    add-t23
+    mul-next-year
+    array-read-next-year
+    next-year-requires
+    add-t22
     returns
-    add-later-lows
-    mul-later-lows
-    array-write-later-lows
-    add-later-highs
-    mul-later-highs
-    array-write-later-highs
+    add-lows
+    mul-lows
+    array-write-lows
+    add-highs
+    mul-highs
+    array-write-highs
     add-i
     loop-less
     loop-again

@@ -1,60 +1,46 @@
--- `forward_end` meets its contract.
+-- Both results are read back from their bits, and the test finds the outer one.
 use mathlib.Core.Path.{_≡_}
-use Prim.Native.Nat.{_+_}
-use Rattle.fraction.specs.Rounding.{U}
+use Prim.Native.Nat.{ℕ, _+_, _^_, _<_}
+use lib.IntN.{ℤ}
+use lib.Signed.{mag}
+use Rattle.fraction.specs.Rounding.{U, roundℤ}
 use Rattle.method.specs.Extrapolation.{blend}
-use Rattle.extrapolation.specs.Extrapolated.{roundBy}
-use Rattle.extrapolation.proofs.Machine.{stored}
-use Rattle.extrapolation.proofs.Forwarding.{quotient-is, outer-first, outer-second}
+use Rattle.rounding.proofs.Machine.{stored}
+use Rattle.extrapolation.proofs.Forwarding.{ends-read, outer-first, outer-second}
 use borrow.Author.Needs.{needs}
 use Rattle.extrapolation.proofs.forward_end.Statement.{statement}
 use Rattle.extrapolation.proofs.forward_end.Tie as tie
 
-blend-requires : tie.Need-blend-requires
-blend-requires c κs = search needs
+blended-requires : tie.Need-blended-requires
+blended-requires c κs = search needs
 
-quotient-requires : tie.Need-quotient-requires
-quotient-requires c κs = search needs
+add-blended : tie.Need-add-blended
+add-blended c = search needs
 
-add-blend : tie.Need-add-blend
-add-blend c = search needs
+blended-requires-2 : tie.Need-blended-requires-2
+blended-requires-2 c κs = search needs
 
-blend-requires-2 : tie.Need-blend-requires-2
-blend-requires-2 c κs = search needs
+module _ (c : tie.After-blended2) where
+  abbrev s : tie.Start
+  s = c .before .before
 
-quotient-requires-2 : tie.Need-quotient-requires-2
-quotient-requires-2 c κs = search needs
+  abbrev at : ℕ → ℤ
+  at κ = roundℤ (s .args .up) (blend (s .args .l) (s .args .f) κ) U
 
-module _ (c : tie.After-quotient2) where
-  abbrev start : tie.Start
-  start = c .before .before .before .before
+  result-is : (κ : ℕ) {r : ℤ} → r ≡ roundℤ (s .args .up) (blend (stored (s .args .l)) (stored (s .args .f)) κ) U → mag r < 2 ^ 63 → stored r ≡ at κ
+  result-is κ = ends-read (λ l f. roundℤ (s .args .up) (blend l f κ) U) (s .args .l) (s .args .f) (s .pre .0) (s .pre .1)
 
-  at-K : stored (c .before .before .quotient .result) ≡ roundBy (start .args .up) (blend (start .args .l) (start .args .f) (start .args .k)) U
-  at-K =
-      let b = c .before .before .before .blend in
-      let q = c .before .before .quotient in
-      quotient-is (roundBy (start .args .up)) _ _ _ (start .fits .l) (start .fits .f) (b .ensures) (b .ok) (q .ensures) (q .ok)
+  at-K : stored (c .before .blended .result) ≡ at (s .args .k)
+  at-K = result-is (s .args .k) (c .before .blended .ensures) (c .before .blended .ok)
 
-  at-K+1 : stored (c .quotient2 .result) ≡ roundBy (start .args .up) (blend (start .args .l) (start .args .f) (start .args .k + 1)) U
-  at-K+1 =
-      let b = c .before .blend2 in
-      let q = c .quotient2 in
-      quotient-is (roundBy (start .args .up)) _ _ _ (start .fits .l) (start .fits .f) (b .ensures) (b .ok) (q .ensures) (q .ok)
+  at-K+1 : stored (c .blended2 .result) ≡ at (s .args .k + 1)
+  at-K+1 = result-is (s .args .k + 1) (c .blended2 .ensures) (c .blended2 .ok)
 
 returns : tie.Need-returns
-returns c = outer-second (start (c .before) .args .up) (at-K (c .before)) (at-K+1 (c .before)) (c .if1 .taken)
+returns c = outer-second (s (c .before) .args .up) (at-K (c .before)) (at-K+1 (c .before)) (c .if1 .taken)
 
 returns-2 : tie.Need-returns-2
-returns-2 c = outer-first (start (c .before) .args .up) (at-K (c .before)) (at-K+1 (c .before)) (c .if1 .left)
+returns-2 c = outer-first (s (c .before) .args .up) (at-K (c .before)) (at-K+1 (c .before)) (c .if1 .left)
 
 pub forward-end-spec : {M : Type 1} → statement M
-forward-end-spec =
-    tie.close
-    (tie.spec
-    blend-requires
-    quotient-requires
-    add-blend
-    blend-requires-2
-    quotient-requires-2
-    returns
-    returns-2)
+forward-end-spec = tie.close (tie.spec blended-requires add-blended blended-requires-2 returns returns-2)

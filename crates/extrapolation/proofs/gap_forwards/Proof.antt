@@ -1,4 +1,4 @@
--- `gap_forwards` meets its contract.
+-- The loop's invariant: the forwards before i are the definition's, and every entry is small.
 use Prim.Native.Nat.{_-_}
 use borrow.Author.Needs.{needs}
 use Rattle.extrapolation.proofs.Gaps.{Filled, no-gap, after-gap, all-gaps}
@@ -14,22 +14,20 @@ abbrev μ-loop : tie.MeasureT-loop
 loop-holds : tie.Need-loop-holds Inv-loop μ-loop
 loop-holds c = no-gap (search needs) (search needs)
 
-mul-gap-forward : tie.Need-mul-gap-forward Inv-loop μ-loop
-mul-gap-forward c = search needs
+mul-t13 : tie.Need-mul-t13 Inv-loop μ-loop
+mul-t13 c = search needs
 
-array-read-gap-forward : tie.Need-array-read-gap-forward Inv-loop μ-loop
-array-read-gap-forward c = search needs
+array-read-t16 : tie.Need-array-read-t16 Inv-loop μ-loop
+array-read-t16 c = search needs
 
-mul-gap-forward-2 : tie.Need-mul-gap-forward-2 Inv-loop μ-loop
-mul-gap-forward-2 c = search needs
+mul-t17 : tie.Need-mul-t17 Inv-loop μ-loop
+mul-t17 c = search needs
 
-array-read-gap-forward-2 : tie.Need-array-read-gap-forward-2 Inv-loop μ-loop
-array-read-gap-forward-2 c = search needs
+array-read-t20 : tie.Need-array-read-t20 Inv-loop μ-loop
+array-read-t20 c = search needs
 
 gap-forward-requires : tie.Need-gap-forward-requires Inv-loop μ-loop
-gap-forward-requires c κs =
-    let x = c .before .before .pre (c .before .loop .i) (search needs) in
-    (x .0 .from-lower, (x .0 .to-upper, (x .1 .from-lower, x .1 .to-upper)))
+gap-forward-requires c κs = c .before .before .pre (c .before .loop .i) (search needs)
 
 mul-from : tie.Need-mul-from Inv-loop μ-loop
 mul-from c = search needs
@@ -51,11 +49,11 @@ loop-less c = search needs
 
 loop-again : tie.Need-loop-again Inv-loop μ-loop
 loop-again c =
-    let g = c .before .before .gap-forward in
-    after-gap (c .before .before .before .before .loop .inv) (g .result) (search needs) (g .ensures .0) (g .ensures .1)
+    let g = c .before .before in
+    after-gap (g .before .before .loop .inv) (g .gap-forward .result) (search needs) (g .gap-forward .ensures .0) (g .gap-forward .ensures .1)
 
 returns : tie.Need-returns Inv-loop μ-loop
-returns c = let d = c .before .loop .inv in (all-gaps d (search needs), d .bounded)
+returns c = let d = c .before .loop .inv in (all-gaps d (search needs), d .sizes)
 
 pub gap-forwards-spec : {M : Type 1} → statement M
 gap-forwards-spec =
@@ -64,10 +62,10 @@ gap-forwards-spec =
     Inv-loop
     μ-loop
     loop-holds
-    mul-gap-forward
-    array-read-gap-forward
-    mul-gap-forward-2
-    array-read-gap-forward-2
+    mul-t13
+    array-read-t16
+    mul-t17
+    array-read-t20
     gap-forward-requires
     mul-from
     array-set-from-from

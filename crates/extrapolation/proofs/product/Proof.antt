@@ -1,10 +1,10 @@
--- `product` meets its contract.
+-- The weighted volume and its product with g are small enough to be read back from their bits.
 use native.Mathlib.Nat.{mul-le-mul}
 use native.Mathlib.Omega.{arith}
 use Prim.Native.Nat.{_≤_, _*_}
-use Rattle.series.specs.Series.{forwardBound}
+use Rattle.method.specs.Ranges.{forwardBound}
 use Rattle.extrapolation.specs.Extrapolated.{volumeBound}
-use Rattle.extrapolation.proofs.Machine.{Computed, fits, held, integer, natural, times}
+use Rattle.rounding.proofs.Machine.{Computed, fits, held, integer, natural, times}
 use Rattle.extrapolation.proofs.product.Statement.{statement}
 use Rattle.extrapolation.proofs.product.Tie as tie
 

@@ -1,4 +1,4 @@
--- `total` meets its contract.
+-- Each volume is small, so no sum wraps; the five entries spelled out are the list that the definition adds up.
 use mathlib.Core.Path.{_≡_, ap}
 use native.Mathlib.Omega.{arith}
 use lib.ListN.{length}

@@ -17,8 +17,8 @@ slice-aggregate-page-after c = simp length-take (omega arith)
 page-after-requires : tie.Need-page-after-requires
 page-after-requires c κs = search needs
 
-page-number-requires : tie.Need-page-number-requires
-page-number-requires c κs = search needs
+number-requires : tie.Need-number-requires
+number-requires c κs = search needs
 
 print-decimal-requires : tie.Need-print-decimal-requires
 print-decimal-requires c κs = search needs
@@ -46,7 +46,7 @@ show-spec =
     slice-relend-prefix-page-after
     slice-aggregate-page-after
     page-after-requires
-    page-number-requires
+    number-requires
     print-decimal-requires
     slice-aggregate-write-all
     write-all-requires

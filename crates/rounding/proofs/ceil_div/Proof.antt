@@ -1,4 +1,4 @@
--- `ceil_div` meets its contract: the laws of Division.antt, in the direction of the ceiling.
+-- The quotient toward zero is the ceiling, or one below it where the remainder is above 0 (Division.antt).
 use Rattle.rounding.proofs.Division.{ceiling-rounds, Operands, divides, stepped-fits, stepped-rounds, kept-rounds}
 use Rattle.rounding.proofs.ceil_div.Statement.{statement}
 use Rattle.rounding.proofs.ceil_div.Tie as tie

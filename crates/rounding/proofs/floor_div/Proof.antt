@@ -1,4 +1,4 @@
--- `floor_div` meets its contract: the laws of Division.antt, in the direction of the floor.
+-- The quotient toward zero is the floor, or one above it where the remainder is below 0 (Division.antt).
 use Rattle.rounding.proofs.Division.{floor-rounds, Operands, divides, stepped-fits, stepped-rounds, kept-rounds}
 use Rattle.rounding.proofs.floor_div.Statement.{statement}
 use Rattle.rounding.proofs.floor_div.Tie as tie

@@ -1,6 +1,6 @@
--- `gap_forward` meets its contract.
+-- Both ends are small, so the new pair stores them as they are.
 use Rattle.method.specs.Series.{gapForward}
-use Rattle.series.proofs.Forwards.{read, read-bound}
+use Rattle.rounding.proofs.Machine.{stored-is, stored-size}
 use borrow.Author.Needs.{needs}
 use Rattle.series.proofs.gap_forward.Statement.{statement}
 use Rattle.series.proofs.gap_forward.Tie as tie
@@ -16,10 +16,10 @@ unfolding gapForward
 returns c =
     let from = c .before .before .before .minus-log in
     let to = c .before .before .minus-log2 in
-    let low = from .ensures .1 .low-bound in
-    let high = to .ensures .1 .high-bound in (
-      rw (read (from .result .low) low, read (to .result .high) high, ← from .ensures .0, ← to .ensures .0),
-      record { low-bound = read-bound (from .result .low) low; high-bound = read-bound (to .result .high) high },
+    let low = from .ensures .1 .low-size in
+    let high = to .ensures .1 .high-size in (
+      rw (stored-is (from .result .low) low tt, stored-is (to .result .high) high tt, ← from .ensures .0, ← to .ensures .0),
+      record { low-size = stored-size (from .result .low) low tt; high-size = stored-size (to .result .high) high tt },
     )
 
 pub gap-forward-spec : {M : Type 1} → statement M

@@ -1,8 +1,7 @@
--- `minus_log` meets its contract.
+-- Both sizes fit a signed number; the pair is G's up to U, and negated above it.
 use mathlib.Core.Path.{ap, _∙_}
-use Rattle.series.specs.Series.{negated}
-use Rattle.series.proofs.Forwards.{cast, cast-bounded}
-use Rattle.series.proofs.Logarithm.{G-to-U, G-above-U}
+use Rattle.series.specs.Sides.{negated}
+use Rattle.series.proofs.Logarithm.{cast-is, cast-size, G-to-U, G-above-U}
 use borrow.Author.Needs.{needs}
 use Rattle.series.proofs.minus_log.Statement.{statement}
 use Rattle.series.proofs.minus_log.Tie as tie
@@ -26,17 +25,18 @@ returns : tie.Need-returns
 returns c =
     let low = c .before .before .log-size .ensures in
     let high = c .before .log-size2 .ensures in
-    (cast (low .1) (high .1) ∙ G-to-U (low .0) (high .0) (c .if1 .taken), cast-bounded (low .1) (high .1))
+    (cast-is (low .1) (high .1) ∙ G-to-U (low .0) (high .0) (c .if1 .taken), cast-size (low .1) (high .1))
 
 returns-2 : tie.Need-returns-2
 returns-2 c =
-    let low = c .before .before .before .log-size .ensures in
-    let high = c .before .before .log-size2 .ensures in
-    let g = G-above-U (low .0) (high .0) (c .before .if1 .left) in
-    (c .negate .ensures .0 ∙ ap negated (cast (low .1) (high .1)) ∙ g, c .negate .ensures .1)
+    let above = c .before in
+    let low = above .before .before .log-size .ensures in
+    let high = above .before .log-size2 .ensures in
+    let g = G-above-U (low .0) (high .0) (above .if1 .left) in
+    (c .negate .ensures .0 ∙ ap negated (cast-is (low .1) (high .1)) ∙ g, c .negate .ensures .1)
 
 negate-requires : tie.Need-negate-requires
-negate-requires c κs = cast-bounded (c .before .before .log-size .ensures .1) (c .before .log-size2 .ensures .1)
+negate-requires c κs = cast-size (c .before .before .log-size .ensures .1) (c .before .log-size2 .ensures .1)
 
 pub minus-log-spec : {M : Type 1} → statement M
 minus-log-spec =

@@ -1,7 +1,7 @@
--- `ultimate_forward` meets its contract.
+-- The definition's negation, written out.
 use mathlib.Core.Path.{ap, _∙_}
 use Rattle.method.specs.Series.{ultimateForward}
-use Rattle.series.specs.Series.{negated}
+use Rattle.series.specs.Sides.{negated}
 use borrow.Author.Needs.{needs}
 use Rattle.series.proofs.ultimate_forward.Statement.{statement}
 use Rattle.series.proofs.ultimate_forward.Tie as tie

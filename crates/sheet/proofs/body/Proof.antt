@@ -1,8 +1,8 @@
--- `body` meets its contract: the part from `start + 1` to the end of the record is the body.
+-- The part from the kind byte on to the end of the record is the body.
 use Prim.Native.Nat.{_+_}
 use native.Mathlib.Nat.{add-sub-cancel-left}
-use native.Mathlib.Omega.{arith}
-use lib.ListN.{length-take, length-drop}
+use Rattle.sheet.specs.Views.{asSlot}
+use Rattle.sheet.proofs.Bodies.{body-length}
 use borrow.Author.Needs.{needs}
 use Rattle.sheet.proofs.body.Statement.{statement}
 use Rattle.sheet.proofs.body.Tie as tie
@@ -30,10 +30,12 @@ part-result-end c = search needs
 
 returns : tie.Need-returns
 returns c =
-    let start = c .before .before .before .before .before .args .t .start in
-    let form = c .before .before .before .form-of .ensures in (
+    let made = c .before .before .before in
+    let form = made .form-of .ensures in
+    let entry = made .before .before in
+    let start = entry .args .slot .start in (
       rw (add-sub-cancel-left (start + 1), form .1 .0, form .1 .1),
-      rw (add-sub-cancel-left (start + 1), form .1 .0, form .1 .1) (simp (length-take, length-drop) (omega arith)),
+      rw (add-sub-cancel-left (start + 1), form .1 .0, form .1 .1) (body-length _ (asSlot (entry .args .slot)) (entry .pre)),
     )
 
 pub body-spec : {M : Type 1} → statement M

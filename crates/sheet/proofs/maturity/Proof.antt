@@ -1,6 +1,6 @@
--- `maturity` meets its contract: the constant table is the list of the definition.
-use borrow.Author.Needs.{needs}
+-- The constant table is the list of the definition.
 use Rattle.method.specs.Sheet.{maturities}
+use borrow.Author.Needs.{needs}
 use Rattle.sheet.proofs.maturity.Statement.{statement}
 use Rattle.sheet.proofs.maturity.Tie as tie
 

@@ -1,4 +1,4 @@
--- `range_of` meets its contract: kind by kind.
+-- Kind by kind, as the definition has it.
 use mathlib.Core.Path.{refl}
 use borrow.Author.Needs.{needs}
 use Rattle.sheet.proofs.range_of.Statement.{statement}

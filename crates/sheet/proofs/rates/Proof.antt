@@ -1,41 +1,48 @@
--- `rates` meets its contract: index by index, the number of its turn.
-use mathlib.Core.Path.{sym, ap, _∙_}
-use Prim.Native.Nat.{_-_}
+-- Invariant: the rates before the index are filled in. Each is in range, so 16 bits hold it.
+use mathlib.Core.Path.{sym}
+use Prim.Native.Nat.{_-_, _+_}
+use native.Mathlib.Omega.{arith}
 use lib.IntN.{pos}
-use lib.ListN.{take, drop}
-use mir.Syntax.{w16}
+use lib.ListN.{take, drop, getD}
+use mir.Syntax.{w16, w64}
+use mir.Val.{SFits}
+use mir.Facts.{sfits-widen}
 use mir.ValLaws.{toZ-ofZ}
-use denote.Ref.{now}
+use Rattle.sheet.proofs.Filling.{Filled, filled-none, filled-more, filled-all, part-length, part-at}
+use Rattle.sheet.proofs.Ranges.{rate-inside}
 use borrow.Author.Needs.{needs}
-use Rattle.method.specs.Sheet.{Turn, numberBytes, twosComplement16}
-use Rattle.method.proofs.Turns.{allNumbers, rate-turn, rates-length, rate-at}
-use Rattle.sheet.specs.Records.{unsignedOf}
-use Rattle.sheet.proofs.Filling.{Filled, filled-none, filled-more, filled-all}
 use Rattle.sheet.proofs.rates.Statement.{statement}
 use Rattle.sheet.proofs.rates.Tie as tie
 
 abbrev Inv-loop : tie.InvT-loop
-Inv-loop sheet rates₀ i₀ rates i = Filled (take 17 (drop 1 (allNumbers sheet))) rates i
+Inv-loop numbers rates₀ i₀ rates i = Filled (take 17 (drop 1 numbers)) rates i
 
 abbrev μ-loop : tie.MeasureT-loop
-μ-loop sheet rates₀ i₀ rates i = 17 - i
+μ-loop numbers rates₀ i₀ rates i = 17 - i
 
 loop-holds : tie.Need-loop-holds Inv-loop μ-loop
-loop-holds c = filled-none _ _ (sym (rates-length _))
+loop-holds c = filled-none _ _ (sym (part-length 1 17 (c .args .numbers .now) (omega arith)))
 
-add-unsigned : tie.Need-add-unsigned Inv-loop μ-loop
-add-unsigned c = search needs
-
-unsigned-requires : tie.Need-unsigned-requires Inv-loop μ-loop
-unsigned-requires c κs = search needs
-
-twos-complement-requires : tie.Need-twos-complement-requires Inv-loop μ-loop
-twos-complement-requires c κs =
-    let i = c .before .before .loop .i in
-    rw (ap (λ (t : Turn). numberBytes (t .kind)) (rate-turn i (c .before .loop-test .taken))) at (c .unsigned .ensures .1)
+add-rates : tie.Need-add-rates Inv-loop μ-loop
+add-rates c = search needs
 
 mul-rates : tie.Need-mul-rates Inv-loop μ-loop
 mul-rates c = search needs
+
+element-copy-out-rates : tie.Need-element-copy-out-rates Inv-loop μ-loop
+element-copy-out-rates c = search needs
+
+-- a rate in its range
+fits : (c : tie.After-rates Inv-loop μ-loop) → SFits w16 (getD (c .before .before .before .args .numbers .now) (1 + c .before .before .loop .i) (pos 0))
+fits c =
+    let at = c .before .before in
+    record { sfits = omega (arith, rate-inside (at .before .args .numbers .now) (at .before .pre) (at .loop .i) (c .before .loop-test .taken)) }
+
+cast-rates : tie.Need-cast-rates Inv-loop μ-loop
+cast-rates c = rw (toZ-ofZ w64 _ (sfits-widen tt (fits c))) (fits c)
+
+mul-rates-2 : tie.Need-mul-rates-2 Inv-loop μ-loop
+mul-rates-2 c = search needs
 
 array-set-from-rates : tie.Need-array-set-from-rates Inv-loop μ-loop
 array-set-from-rates c = search needs
@@ -48,16 +55,17 @@ loop-less c = search needs
 
 loop-again : tie.Need-loop-again Inv-loop μ-loop
 loop-again c =
-    let l = c .before .before .before .loop in
-    let h = c .before .before .loop-test .taken in
-    let s = now (c .before .before .before .before .before .args .sheet) in
-    filled-more _ _ (l .i) _ (pos 0) (l .inv) (rw (rates-length s) h)
-    (toZ-ofZ w16 _ (record { sfits = c .twos-complement .ok }) ∙ c .twos-complement .ensures ∙ ap twosComplement16 (c .before .unsigned .ensures .0 ∙ ap (unsignedOf s) (rate-turn (l .i) h)) ∙ sym (rate-at s (l .i) _ h (rate-turn (l .i) h)))
+    let at = c .before .before in
+    let l = at .loop in
+    let numbers = at .before .args .numbers .now in
+    let h = c .before .loop-test .taken in
+    filled-more _ _ (l .i) _ (pos 0) (l .inv) (rw (part-length 1 17 numbers (omega arith)) h)
+    (rw (toZ-ofZ w64 _ (sfits-widen tt (fits c)), toZ-ofZ w16 _ (fits c), part-at 1 17 numbers (l .i) (pos 0) h))
 
 returns : tie.Need-returns Inv-loop μ-loop
 returns c =
     let l = c .before .loop in
-    filled-all _ _ (l .i) (l .inv) (rw (rates-length _) (c .loop-test .left))
+    filled-all _ _ (l .i) (l .inv) (rw (part-length 1 17 (c .before .before .args .numbers .now) (omega arith)) (c .loop-test .left))
 
 pub rates-spec : {M : Type 1} → statement M
 rates-spec =
@@ -66,10 +74,11 @@ rates-spec =
     Inv-loop
     μ-loop
     loop-holds
-    add-unsigned
-    unsigned-requires
-    twos-complement-requires
+    add-rates
     mul-rates
+    element-copy-out-rates
+    cast-rates
+    mul-rates-2
     array-set-from-rates
     add-i
     loop-less

@@ -1,17 +1,16 @@
--- `traded` meets its contract: nothing was traded before the index that the loop has come to.
+-- Invariant: nothing was traded before the index.
 use mathlib.Core.Path.{_≡_, refl, sym}
 use mathlib.Core.List.{List}
 use Prim.Native.Nat.{ℕ, _-_, _≤_}
 use native.Mathlib.Omega.{arith}
 use lib.ListN.{length, drop}
 use borrow.Author.Tests.{lt-ltb, le-ltb}
-use borrow.Author.Needs.{needs}
 use Rattle.method.specs.Sheet.{total}
 use Rattle.sheet.proofs.Trading.{total-next, total-past}
+use borrow.Author.Needs.{needs}
 use Rattle.sheet.proofs.traded.Statement.{statement}
 use Rattle.sheet.proofs.traded.Tie as tie
 
--- nothing was traded before the index i
 record Left (volumes : List ℕ) (i : ℕ) : Type 0 where
   within : i ≤ 5
   long : length volumes ≡ 5
@@ -34,8 +33,9 @@ array-read-if1 c = search needs
 
 returns : tie.Need-returns Inv-loop μ-loop
 returns c =
-    let l = c .before .before .loop in
-    sym (lt-ltb 0 (total (c .before .before .before .args .t1)) (omega (arith, total-next (c .before .before .before .args .t1) (l .i) (omega arith))))
+    let at = c .before .before in
+    let volumes = at .before .args .t1 in
+    sym (lt-ltb 0 (total volumes) (omega (arith, total-next volumes (at .loop .i) (omega arith))))
 
 add-i : tie.Need-add-i Inv-loop μ-loop
 add-i c = search needs
@@ -45,14 +45,14 @@ loop-less c = search needs
 
 loop-again : tie.Need-loop-again Inv-loop μ-loop
 loop-again c =
-    let l = c .before .before .loop in
-    let e = total-next (c .before .before .before .args .t1) (l .i) (omega arith) in
-    record { within = omega arith; long = l .inv .long; left = omega arith }
+    let at = c .before .before in
+    let e = total-next (at .before .args .t1) (at .loop .i) (omega arith) in
+    record { within = omega arith; long = at .loop .inv .long; left = omega arith }
 
 returns-2 : tie.Need-returns-2 Inv-loop μ-loop
 returns-2 c =
-    let l = c .before .loop in
-    sym (le-ltb 0 (total (c .before .before .args .t1)) (omega (arith, total-past (c .before .before .args .t1) (l .i) (omega arith))))
+    let volumes = c .before .before .args .t1 in
+    sym (le-ltb 0 (total volumes) (omega (arith, total-past volumes (c .before .loop .i) (omega arith))))
 
 pub traded-spec : {M : Type 1} → statement M
 traded-spec =

@@ -1,58 +1,28 @@
--- `unsigned` meets its contract: the bytes of the body after its maturity.
-use mathlib.Core.Path.{ap, _∙_}
-use native.Mathlib.Omega.{arith}
-use denote.Ref.{now}
+-- A number of a kind without a sign is cast as it stands.
+use lib.IntN.{pos}
+use lib.ListN.{getD}
+use mir.Syntax.{w64}
+use mir.Val.{SFits}
+use mir.Facts.{fits-natAbs}
+use mir.ValLaws.{toZ-ofZ}
 use borrow.Author.Needs.{needs}
-use Rattle.method.specs.Sheet.{Turn, numberBytes}
-use Rattle.sheet.specs.Records.{kindOf, unsignedOf}
-use Rattle.sheet.proofs.Bytes.{four-bytes, rest-of, rest-length}
 use Rattle.sheet.proofs.unsigned.Statement.{statement}
 use Rattle.sheet.proofs.unsigned.Tie as tie
 
-turn-at-requires : tie.Need-turn-at-requires
-turn-at-requires c κs = search needs
+mul-result : tie.Need-mul-result
+mul-result c = search needs
 
-form-of-requires : tie.Need-form-of-requires
-form-of-requires c κs = search needs
+element-copy-out-result : tie.Need-element-copy-out-result
+element-copy-out-result c = search needs
 
-body-requires : tie.Need-body-requires
-body-requires c κs = search needs
+fits : (c : tie.After-result) → SFits w64 (getD (c .before .args .numbers .now) (c .before .args .i) (pos 0))
+fits c = record { sfits = c .result .given }
 
-sub-big-endian : tie.Need-sub-big-endian
-sub-big-endian c = search needs
-
-part-big-endian-start : tie.Need-part-big-endian-start
-part-big-endian-start c = search needs
-
-part-big-endian-end : tie.Need-part-big-endian-end
-part-big-endian-end c = search needs
-
-big-endian-requires : tie.Need-big-endian-requires
-big-endian-requires c κs =
-    let b = c .before .body .result .now in
-    let k = kindOf (c .before .before .before .turn-at .result .kind) in
-    omega (arith, rest-length (c .before .before .form-of .result .1) (numberBytes k) b (omega arith), four-bytes k)
+cast-result : tie.Need-cast-result
+cast-result c = rw (toZ-ofZ w64 _ (fits c), c .before .pre .1) (tt, fits-natAbs tt (fits c))
 
 returns : tie.Need-returns
-returns c =
-    let s = now (c .before .before .before .before .before .before .args .sheet) in
-    let turn = c .before .before .before .before .turn-at in
-    let form = c .before .before .before .form-of in
-    let b = c .before .before .body in
-    let n = numberBytes (kindOf (turn .result .kind)) in (
-      c .big-endian .ensures .0 ∙ rw (rest-of, form .ensures .1 .0, b .ensures .0) (ap (unsignedOf s) (turn .ensures .turn)),
-      rw (rest-length (form .result .1) n (b .result .now) (omega arith), ap (λ (t : Turn). numberBytes (t .kind)) (turn .ensures .turn)) at (c .big-endian .ensures .1),
-    )
+returns c = rw (toZ-ofZ w64 _ (fits c))
 
 pub unsigned-spec : {M : Type 1} → statement M
-unsigned-spec =
-    tie.close
-    (tie.spec
-    turn-at-requires
-    form-of-requires
-    body-requires
-    sub-big-endian
-    part-big-endian-start
-    part-big-endian-end
-    big-endian-requires
-    returns)
+unsigned-spec = tie.close (tie.spec mul-result element-copy-out-result cast-result returns)

@@ -1,31 +1,34 @@
--- `volumes` meets its contract: index by index, the number of its turn.
-use mathlib.Core.Path.{sym, ap, _∙_}
+-- Invariant: the volumes before the index are filled in. None has a sign.
+use mathlib.Core.Path.{refl, sym, _∙_}
 use mathlib.Core.List.{map}
-use Prim.Native.Nat.{_-_}
-use lib.IntN.{natAbs}
-use lib.ListN.{take, drop}
-use denote.Ref.{now}
+use Prim.Native.Nat.{_+_, _-_}
+use native.Mathlib.Omega.{arith}
+use lib.IntN.{pos, natAbs}
+use lib.ListN.{take, drop, length-map, List·getD-map}
+use Rattle.method.proofs.Slots.{volume-slot}
+use Rattle.sheet.proofs.Filling.{Filled, filled-none, filled-more, filled-all, part-length, part-at}
+use Rattle.sheet.proofs.Ranges.{unsigned-inside}
 use borrow.Author.Needs.{needs}
-use Rattle.method.proofs.Turns.{allNumbers, volume-turn, volumes-length, volume-at}
-use Rattle.sheet.specs.Records.{unsignedOf}
-use Rattle.sheet.proofs.Filling.{Filled, filled-none, filled-more, filled-all}
 use Rattle.sheet.proofs.volumes.Statement.{statement}
 use Rattle.sheet.proofs.volumes.Tie as tie
 
 abbrev Inv-loop : tie.InvT-loop
-Inv-loop sheet volumes₀ i₀ volumes i = Filled (map natAbs (take 5 (drop 18 (allNumbers sheet)))) volumes i
+Inv-loop numbers volumes₀ i₀ volumes i = Filled (map natAbs (take 5 (drop 18 numbers))) volumes i
 
 abbrev μ-loop : tie.MeasureT-loop
-μ-loop sheet volumes₀ i₀ volumes i = 5 - i
+μ-loop numbers volumes₀ i₀ volumes i = 5 - i
 
 loop-holds : tie.Need-loop-holds Inv-loop μ-loop
-loop-holds c = filled-none _ _ (sym (volumes-length _))
+loop-holds c = filled-none _ _ (rw (length-map, part-length 18 5 (c .args .numbers .now) (omega arith)))
 
 add-unsigned : tie.Need-add-unsigned Inv-loop μ-loop
 add-unsigned c = search needs
 
 unsigned-requires : tie.Need-unsigned-requires Inv-loop μ-loop
-unsigned-requires c κs = search needs
+unsigned-requires c κs =
+    let at = c .before in
+    let i = at .loop .i in
+    (omega arith, unsigned-inside (at .before .args .numbers .now) (at .before .pre) (18 + i) _ (omega arith) (volume-slot i (c .loop-test .taken)) refl)
 
 mul-volumes : tie.Need-mul-volumes Inv-loop μ-loop
 mul-volumes c = search needs
@@ -41,16 +44,17 @@ loop-less c = search needs
 
 loop-again : tie.Need-loop-again Inv-loop μ-loop
 loop-again c =
-    let l = c .before .before .loop in
+    let at = c .before .before in
+    let l = at .loop in
+    let numbers = at .before .args .numbers .now in
     let h = c .before .loop-test .taken in
-    let s = now (c .before .before .before .before .args .sheet) in
-    filled-more _ _ (l .i) _ 0 (l .inv) (rw (volumes-length s) h)
-    (c .unsigned .ensures .0 ∙ ap (unsignedOf s) (volume-turn (l .i) h) ∙ sym (volume-at s (l .i) _ h (volume-turn (l .i) h)))
+    filled-more _ _ (l .i) _ 0 (l .inv) (rw (length-map, part-length 18 5 numbers (omega arith)) h)
+    (c .unsigned .ensures ∙ sym (rw (List·getD-map natAbs _ (l .i) (pos 0), part-at 18 5 numbers (l .i) (pos 0) h)))
 
 returns : tie.Need-returns Inv-loop μ-loop
 returns c =
     let l = c .before .loop in
-    filled-all _ _ (l .i) (l .inv) (rw (volumes-length _) (c .loop-test .left))
+    filled-all _ _ (l .i) (l .inv) (rw (length-map, part-length 18 5 (c .before .before .args .numbers .now) (omega arith)) (c .loop-test .left))
 
 pub volumes-spec : {M : Type 1} → statement M
 volumes-spec =

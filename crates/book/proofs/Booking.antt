@@ -1,0 +1,97 @@
+-- What each call comes to, test by test; and a call turned down, whose book is as it was.
+use mathlib.Core.Path.{_≡_, refl, sym, ap, _∙_}
+use mathlib.Core.Bool.{Bool, true, false, not}
+use mathlib.Core.List.{List}
+use Prim.Native.Nat.{ℕ, _≤_, _<_}
+use borrow.Author.Tests.{le-leb, lt-leb}
+use Rattle.method.specs.Grounds.{Ground, afterToldMonth, beforeStandingCurve, monthAboveLast, monthBeforeTold, Outcome, refused, done}
+use Rattle.method.specs.Sheet.{Numbers, readSheet}
+use Rattle.method.specs.Curve.{Curve, curveOf}
+use Rattle.ledger.specs.Book as ledger
+use Rattle.ledger.specs.Book.{Standing, none, some, Booked, notBefore, postOutcome, post, turnOutcome, withTold, turn}
+use Rattle.grounds.specs.declared.Ground as grounds
+use Rattle.grounds.specs.declared.Verdict.{Verdict}
+use Rattle.grounds.specs.declared.Verdict.the-variants.{Refused}
+use Rattle.grounds.specs.Verdicts.{asGround, asOutcome, resultOr}
+use Rattle.curve.specs.declared.Curve as curve
+use Rattle.curve.specs.Curves.{asCurve}
+use Rattle.book.specs.declared.Book as code
+use Rattle.book.specs.declared.Booked as reply
+use Rattle.book.specs.Views.{asStanding, asBook, asBooked}
+use Rattle.book.specs.Steps.{posted, afterReading}
+
+-- ---- a call that is turned down
+
+abbrev pub kept : ledger.Book → Ground → Booked
+kept b g = record { book = b; answer = refused g }
+
+abbrev seen : code.Book → Verdict → ℕ → Booked
+seen b v m = record { book = asBook b; answer = asOutcome v m }
+
+pub down : {r : reply.Booked} {b : code.Book} {v : Verdict} {g : grounds.Ground} {o : Booked} → (r .verdict ≡ v) × ((r .month ≡ 0) × (r .book ≡ b)) →
+    v ≡ Refused g → o ≡ kept (asBook b) (asGround g) → (asBooked r ≡ o) × (r .month ≡ resultOr 0 (o .answer))
+down {r} {b} (e, (zero, same)) h o =
+    let book = ap (λ (x : code.Book). seen x (r .verdict) (r .month)) same in
+    let verdict = ap (λ (x : Verdict). seen b x (r .month)) (e ∙ h) in
+    (book ∙ verdict ∙ sym o, zero ∙ ap (λ (p : Booked). resultOr 0 (p .answer)) (sym o))
+
+-- ---- the flag beside the curve, and a test that the code negates
+
+pub not-so : (b : Bool) → not b ≡ true → b ≡ false
+not-so true e = sym e
+not-so false e = refl
+
+pub so : (b : Bool) → not b ≡ false → b ≡ true
+so true e = refl
+so false e = sym e
+
+pub stands : (has : Bool) (c : curve.Curve) → not has ≡ false → asStanding has c ≡ some (asCurve c)
+stands has c e = rw (so has e)
+
+pub vacant : (has : Bool) (c : curve.Curve) → not has ≡ true → asStanding has c ≡ none
+vacant has c e = rw (not-so has e)
+
+-- ---- post
+
+module _ (b : ledger.Book) (s : List ℕ) where
+  pub post-refused : {g : Ground} → readSheet s ≡ refused g → post b s ≡ kept b g
+  unfolding post postOutcome
+  post-refused e = rw e
+
+  pub post-read : {n : Numbers} → readSheet s ≡ done n → post b s ≡ posted b (afterReading b n)
+  unfolding post postOutcome
+  post-read e = rw e
+
+module _ (b : ledger.Book) (n : Numbers) where
+  pub after-told : b .told < n .month → posted b (afterReading b n) ≡ kept b afterToldMonth
+  after-told h = rw (lt-leb (n .month) (b .told) h)
+
+  pub before-standing : n .month ≤ b .told → notBefore (b .standing) (n .month) ≡ false → posted b (afterReading b n) ≡ kept b beforeStandingCurve
+  before-standing h k = rw (le-leb (n .month) (b .told) h, k)
+
+  module _ (h : n .month ≤ b .told) (k : notBefore (b .standing) (n .month) ≡ true) where
+    pub curve-refused : {g : Ground} → curveOf n ≡ refused g → posted b (afterReading b n) ≡ kept b g
+    curve-refused e = rw (le-leb (n .month) (b .told) h, k, e)
+
+    pub curve-worked : {c : Curve} → curveOf n ≡ done c → posted b (afterReading b n) ≡ posted b (done c)
+    curve-worked e = rw (le-leb (n .month) (b .told) h, k, e)
+
+-- ---- turn
+
+module _ (b : ledger.Book) (m : ℕ) where
+  pub turn-above : 2_399 < m → turn b m ≡ kept b monthAboveLast
+  unfolding turn turnOutcome
+  turn-above h = rw (lt-leb m 2_399 h)
+
+  pub turn-before : m ≤ 2_399 → m < b .told → turn b m ≡ kept b monthBeforeTold
+  unfolding turn turnOutcome
+  turn-before h k = rw (le-leb m 2_399 h, lt-leb (b .told) m k)
+
+  pub turn-to : m ≤ 2_399 → b .told ≤ m → turn b m ≡ record { book = withTold b m; answer = done m }
+  unfolding turn turnOutcome
+  turn-to h k = rw (le-leb m 2_399 h, le-leb (b .told) m k)
+
+-- ---- a call that is accepted
+
+abbrev pub saying : ledger.Book → ℕ → Booked
+saying b m = record { book = b; answer = done m }

@@ -1,0 +1,23 @@
+-- The parts of a post and of a look-up that the functions between cite.
+use Prim.Native.Nat.{ℕ}
+use lib.Dec.{leb}
+use Rattle.method.specs.Grounds.{afterToldMonth, beforeStandingCurve, Outcome, _>>=_, demand}
+use Rattle.method.specs.Sheet.{Numbers}
+use Rattle.method.specs.Curve.{Curve, curveOf}
+use Rattle.method.specs.Enclosure.{lowOf, highOf}
+use Rattle.ledger.specs.Answers.{Finding, finding}
+use Rattle.ledger.specs.Book.{Book, Booked, booked, notBefore, withCurve, age}
+
+-- what a book makes of the numbers of a sheet that was read: 5 and 6, then 7 to 10
+abbrev pub afterReading : Book → Numbers → Outcome Curve
+afterReading b n = do
+  _ ← demand (leb (n .month) (b .told)) afterToldMonth
+  _ ← demand (notBefore (b .standing) (n .month)) beforeStandingCurve
+  curveOf n
+
+abbrev pub posted : Book → Outcome Curve → Booked
+posted b o = booked b (withCurve b) (λ c. c .month) o
+
+-- what a curve has for a year
+abbrev pub foundAt : Book → Curve → ℕ → Finding
+foundAt b c y = finding (lowOf c y) (highOf c y) (c .month) (age b c)

@@ -1,0 +1,38 @@
+-- The book and what its calls hand back, as the ledger's.
+use mathlib.Core.Bool.{Bool, true, false}
+use mathlib.Core.List.{List}
+use Prim.Native.Nat.{ℕ}
+use Rattle.method.specs.Grounds.{Outcome}
+use Rattle.ledger.specs.Answers as answer
+use Rattle.ledger.specs.Answers.{finding}
+use Rattle.ledger.specs.Book as ledger
+use Rattle.ledger.specs.Book.{Standing, none, some}
+use Rattle.grounds.specs.declared.Verdict.{Verdict}
+use Rattle.grounds.specs.Verdicts.{asOutcome}
+use Rattle.curve.specs.declared.Curve.{Curve}
+use Rattle.curve.specs.Curves.{asCurve}
+use Rattle.book.specs.declared.Book.{Book}
+use Rattle.book.specs.declared.Booked.{Booked}
+use Rattle.book.specs.declared.Finding.{Finding}
+
+-- a flag beside a curve
+abbrev pub asStanding : Bool → Curve → Standing
+asStanding true c = some (asCurve c)
+asStanding false c = none
+
+abbrev pub asBook : Book → ledger.Book
+asBook b = record { told = b .told; standing = asStanding (b .has) (b .curve) }
+
+abbrev pub asBooked : Booked → ledger.Booked
+asBooked r = record { book = asBook (r .book); answer = asOutcome (r .verdict) (r .month) }
+
+abbrev pub asFinding : Finding → answer.Finding
+asFinding f = finding (f .low) (f .high) (f .month) (f .age)
+
+-- what stands beside a refusal
+abbrev pub noFinding : answer.Finding
+noFinding = finding 0 0 0 0
+
+-- the verdict with the buffer at exit
+abbrev pub asPaged : Verdict → List ℕ → ledger.Paged
+asPaged v l = record { buffer = l; answer = asOutcome v tt }
