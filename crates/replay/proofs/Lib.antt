@@ -1,4 +1,1 @@
-pub mod Making
 pub mod Returning
-pub mod Encoding
-pub mod Examples

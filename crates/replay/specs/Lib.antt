@@ -1,3 +1,1 @@
-pub mod Journal
-pub mod Made
 pub mod Returned

@@ -1,40 +1,49 @@
--- SPECIFICATION 11: what the C interface returns, a number and what stands in the buffer.
+-- SPECIFICATION 11: what the C interface returns, an answer and what stands in the buffer.
 use mathlib.Core.Bool.{cond}
 use mathlib.Core.List.{List, _++_}
-use mathlib.Core.Path.{_≡_}
-use Prim.Native.Nat.{ℕ}
-use lib.Dec.{ltb}
+use Prim.Native.Nat.{ℕ, _+_, _*_}
+use lib.Dec.{leb}
 use lib.ListN.{length, drop}
-use Rattle.ledger.specs.Answers.{LookAnswer, Found, YearOutside, NoCurve, PageAnswer, lookNumber, pageNumber}
-use Rattle.ledger.specs.Page.{bytes2, bytes4}
-use Rattle.ledger.specs.Calls.{Count}
-use Rattle.ledger.specs.Told.{LookTold, PageTold}
+use Rattle.method.specs.Bytes.{bytes2, bytes4}
+use Rattle.method.specs.Grounds.{bufferTooShort, numberOf, Outcome, refused, done}
+use Rattle.ledger.specs.Answers.{Finding, answerNumber, answerPlace}
+use Rattle.ledger.specs.Book.{Book, Paged}
+use Rattle.ledger.specs.Calls.{run}
+use Rattle.journal.specs.Journal.{decode}
+use Rattle.journal.specs.Replies.{Reply, posted, turned, looked, cutShort, notKnown}
 
--- low, high, month and age
-abbrev pub foundBytes : ℕ → ℕ → ℕ → ℕ → List ℕ
-foundBytes low high month age = bytes4 low ++ bytes4 high ++ bytes2 month ++ bytes2 age
+-- the book after the calls of a journal
+abbrev pub bookAfter : List ℕ → Book
+bookAfter journal = run (decode journal)
 
 pub record Returned : Type 0 where
-  pub number : ℕ
+  pub answer : ℕ
   pub buffer : List ℕ
 
 abbrev pub returned : ℕ → List ℕ → Returned
-returned n l = record { number = n; buffer = l }
+returned n l = record { answer = n; buffer = l }
 
--- 13 and 14 before 15, the buffer too short; bytes past the twelfth are kept
-abbrev pub lookReturned : LookAnswer → List ℕ → Returned
-lookReturned (Found low high month age) l =
-    cond (ltb (length l) 12) (returned 15 l) (returned 0 (foundBytes low high month age ++ drop 12 l))
-lookReturned YearOutside l = returned 13 l
-lookReturned NoCurve l = returned 14 l
+-- number + 256 × place
+abbrev pub packed : {A : Type 0} → Outcome A → ℕ
+packed o = answerNumber o + 256 * answerPlace o
 
--- the number and the buffer of an answer that the count tells
-pub record LookReturned (c : Count) (y : ℕ) (entry exit : List ℕ) (n : ℕ) : Type 0 where
-  pub answer : LookAnswer
-  pub told : LookTold c y answer
-  pub is : returned n exit ≡ lookReturned answer entry
+-- low, high, month and age
+abbrev pub foundBytes : Finding → List ℕ
+foundBytes f = bytes4 (f .low) ++ bytes4 (f .high) ++ bytes2 (f .month) ++ bytes2 (f .age)
 
-pub record PageReturned (c : Count) (entry exit : List ℕ) (n : ℕ) : Type 0 where
-  pub answer : PageAnswer
-  pub told : PageTold c entry exit answer
-  pub is : n ≡ pageNumber answer
+-- the look-up's own grounds before a buffer that is too short; bytes past the twelfth are kept
+abbrev pub lookReturned : Outcome Finding → List ℕ → Returned
+lookReturned (refused g) l = returned (packed {A = Finding} (refused g)) l
+lookReturned (done f) l =
+    cond (leb 12 (length l)) (returned 0 (foundBytes f ++ drop 12 l)) (returned (numberOf bufferTooShort) l)
+
+abbrev pub pageReturned : Paged → Returned
+pageReturned p = returned (packed (p .answer)) (p .buffer)
+
+-- of one more call; 255 where no whole record stands
+abbrev pub replied : Reply → ℕ
+replied (posted o) = packed o
+replied (turned o) = packed o
+replied (looked y o) = packed o
+replied cutShort = 255
+replied notKnown = 255

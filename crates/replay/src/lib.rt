@@ -1,113 +1,32 @@
-// Any bytes, read as a list of calls and run with the book's own functions.
+// The book after the calls of a journal, and what is then answered: for programs in Rattle, and in C by include/tuyqorem.h.
+use big_endian::byte;
 use book::Book;
-use book::LookAnswer;
-use book::PageAnswer;
+use book::Finding;
+use book::Looked;
+use grounds::Verdict;
+use journal::Reply;
 ghost use mathlib.Core.Path.{_≡_};
-ghost use Prim.Native.Nat.{_+_, _*_, _%_, _<_};
-ghost use Rattle.ledger.specs.Calls.{run, count};
-ghost use Rattle.ledger.specs.Told.{LookTold, PageTold};
-ghost use Rattle.book.specs.Answers.{bookIn, lookOf, pageAnswerOf};
-ghost use Rattle.replay.specs.Journal.{postEntry, turnEntry, lookEntry, entry, stop, decode};
-ghost use Rattle.replay.specs.Made.{Made};
-ghost use Rattle.replay.specs.Returned.{foundBytes, LookReturned, PageReturned};
-
-// The book after a call, and how many bytes the call took; 0 where reading stops.
-struct CallMade {
-    book: Book,
-    taken: usize,
-}
-
-// A number of two bytes, the high byte first.
-pub fn number(high: u8, low: u8) -> u64
-    ensures { λ r. ⌜ (r ≡ high * 256 + low) × (r < 65_536) ⌝ }
-{
-    high as u64 * 256 + low as u64
-}
-
-fn stopped(book: Book, rest: &[u8]) -> CallMade
-    ensures { λ r. ⌜ Made (bookIn book) (now (rest .entry)) stop r ⌝ }
-{
-    CallMade {
-        book: book,
-        taken: 0,
-    }
-}
-
-fn make_post(book: Book, rest: &[u8]) -> CallMade
-    ensures { λ r. ⌜ Made (bookIn book) (now (rest .entry)) (postEntry (now (rest .entry))) r ⌝ }
-{
-    if rest.len() < 3 {
-        return stopped(book, rest);
-    }
-    let length = number(rest[1], rest[2]);
-    let end = 3 + length as usize;
-    if rest.len() < end {
-        return stopped(book, rest);
-    }
-    let posted = book::post(book, &rest[3..end]);
-    let after = posted.book;
-    CallMade {
-        book: after,
-        taken: end,
-    }
-}
-
-fn make_turn(book: Book, rest: &[u8]) -> CallMade
-    ensures { λ r. ⌜ Made (bookIn book) (now (rest .entry)) (turnEntry (now (rest .entry))) r ⌝ }
-{
-    if rest.len() < 3 {
-        return stopped(book, rest);
-    }
-    let month = number(rest[1], rest[2]);
-    let turned = book::turn(book, month);
-    let next = turned.book;
-    CallMade {
-        book: next,
-        taken: 3,
-    }
-}
-
-// A look-up leaves the book as it is.
-fn make_look(book: Book, rest: &[u8]) -> CallMade
-    ensures { λ r. ⌜ Made (bookIn book) (now (rest .entry)) (lookEntry (now (rest .entry))) r ⌝ }
-{
-    if rest.len() < 2 {
-        return stopped(book, rest);
-    }
-    CallMade {
-        book: book,
-        taken: 2,
-    }
-}
-
-// Makes the call at the front of the bytes.
-fn make_call(book: Book, rest: &[u8]) -> CallMade
-    ensures { λ r. ⌜ Made (bookIn book) (now (rest .entry)) (entry (now (rest .entry))) r ⌝ }
-{
-    if rest.len() == 0 {
-        return stopped(book, rest);
-    }
-    let kind = rest[0];
-    if kind == 0x50 {
-        return make_post(book, rest);
-    }
-    if kind == 0x4D {
-        return make_turn(book, rest);
-    }
-    if kind == 0x4C {
-        return make_look(book, rest);
-    }
-    stopped(book, rest)
-}
+ghost use mathlib.Core.Bool.{true};
+ghost use Prim.Native.Nat.{_+_, _*_, _≤_};
+ghost use Rattle.ledger.specs.Book.{lookUp, page};
+ghost use Rattle.ledger.specs.Calls.{lookAt, pageInto};
+ghost use Rattle.ledger.specs.Count.{count};
+ghost use Rattle.ledger.specs.Tells.{Tells};
+ghost use Rattle.ledger.specs.Demands.{Demand3};
+ghost use Rattle.grounds.specs.Verdicts.{asOutcome, resultOr, verdictNumber, verdictPlace};
+ghost use Rattle.book.specs.Views.{asBook, asFinding, noFinding, asPaged};
+ghost use Rattle.journal.specs.Journal.{front, decode};
+ghost use Rattle.journal.specs.Replies.{replyTo};
+ghost use Rattle.replay.specs.Returned.{bookAfter, foundBytes, returned, lookReturned, pageReturned, replied};
 
 // Makes all calls, from a fresh book on.
 fn replay(calls: &[u8]) -> Book
-    ensures { λ r. ⌜ bookIn r ≡ run (decode (now (calls .entry))) ⌝ }
+    ensures { λ r. ⌜ asBook r ≡ bookAfter (now (calls .entry)) ⌝ }
 {
     let mut book = book::fresh();
     let mut at: usize = 0;
     while at < calls.len() {
-        let made = make_call(book, &calls[at..]);
+        let made = journal::make(book, &calls[at..], true);
         book = made.book;
         let taken = made.taken;
         if taken == 0 {
@@ -119,74 +38,93 @@ fn replay(calls: &[u8]) -> Book
 }
 
 // What a look-up answers after these calls.
-pub fn look_after(calls: &[u8], year: u64) -> LookAnswer
-    ensures { λ r. ⌜ LookTold (count (decode (now (calls .entry)))) year (lookOf r) ⌝ }
+pub fn look_after(calls: &[u8], year: u64) -> Looked
+    ensures outcome { λ r. ⌜ asOutcome (r .verdict) (asFinding (r .finding)) ≡ lookUp (bookAfter (now (calls .entry))) year ⌝ }
+    ensures beside { λ r. ⌜ asFinding (r .finding) ≡ resultOr noFinding (lookUp (bookAfter (now (calls .entry))) year) ⌝ }
+    ensures told { λ r. ⌜ Tells (count (decode (now (calls .entry)))) (lookAt year) (asOutcome (r .verdict) (asFinding (r .finding))) ⌝ }
 {
     book::look_up(replay(calls), year)
 }
 
 // The page after these calls, written into a lent buffer.
-pub fn page_after(calls: &[u8], out: &mut [u8]) -> PageAnswer
-    ensures { λ r. ⌜ PageTold (count (decode (now (calls .entry)))) (now (out .entry)) (now (out .exit)) (pageAnswerOf r) ⌝ }
+pub fn page_after(calls: &[u8], out: &mut [u8]) -> Verdict
+    ensures paged { λ r. ⌜ asPaged r (now (out .exit)) ≡ page (bookAfter (now (calls .entry))) (now (out .entry)) ⌝ }
+    ensures told { λ r. ⌜ Tells (count (decode (now (calls .entry)))) (pageInto (now (out .entry))) (asPaged r (now (out .exit))) ⌝ }
 {
     let book = replay(calls);
     book::page(book, out)
 }
 
-// ---- the same for programs in C; include/tuyqorem.h says it in plain words
+// ---- the same for programs in C
 
-fn byte(n: u64) -> u8
-    ensures { λ r. ⌜ r ≡ n % 256 ⌝ }
-{
-    (n % 256) as u8
-}
-
-fn found_bytes(low: u64, high: u64, month: u64, age: u64) -> [u8; 12]
-    ensures { λ r. ⌜ r ≡ foundBytes low high month age ⌝ }
+fn found_bytes(f: Finding) -> [u8; 12]
+    ensures { λ r. ⌜ r ≡ foundBytes (asFinding f) ⌝ }
 {
     [
-        byte(low / 16_777_216),
-        byte(low / 65_536),
-        byte(low / 256),
-        byte(low),
-        byte(high / 16_777_216),
-        byte(high / 65_536),
-        byte(high / 256),
-        byte(high),
-        byte(month / 256),
-        byte(month),
-        byte(age / 256),
-        byte(age),
+        byte(f.low / 16_777_216),
+        byte(f.low / 65_536),
+        byte(f.low / 256),
+        byte(f.low),
+        byte(f.high / 16_777_216),
+        byte(f.high / 65_536),
+        byte(f.high / 256),
+        byte(f.high),
+        byte(f.month / 256),
+        byte(f.month),
+        byte(f.age / 256),
+        byte(f.age),
     ]
 }
 
+// A place is at most 150.
+fn packed(verdict: Verdict) -> u64
+    requires { ⌜ verdictPlace verdict ≤ 150 ⌝ }
+    ensures { λ r. ⌜ r ≡ verdictNumber verdict + 256 * verdictPlace verdict ⌝ }
+{
+    grounds::number(verdict) + 256 * grounds::place(verdict)
+}
+
+// A buffer that is too short is tried last.
 #[no_mangle]
 pub extern "C" fn tuyqorem_look_after(calls: &[u8], year: u64, out: &mut [u8]) -> u64
-    ensures { λ r. ⌜ LookReturned (count (decode (now (calls .entry)))) year (now (out .entry)) (now (out .exit)) r ⌝ }
+    ensures returned { λ r. ⌜ returned r (now (out .exit)) ≡ lookReturned (lookUp (bookAfter (now (calls .entry))) year) (now (out .entry)) ⌝ }
+    ensures told { λ _. ⌜ Demand3 (decode (now (calls .entry))) ⌝ }
 {
-    let answer = look_after(calls, year);
-    match answer {
-        LookAnswer::Found {
-            low,
-            high,
-            month,
-            age,
-        } => {
-            if out.len() < 12 {
-                return 15;
-            }
-            let found = found_bytes(low, high, month, age);
-            bytes::copy(&found, out);
-            0
-        }
-        LookAnswer::YearOutside => 13,
-        LookAnswer::NoCurve => 14,
+    let looked = look_after(calls, year);
+    let verdict = looked.verdict;
+    let Verdict::Passed = verdict else {
+        return packed(verdict);
+    };
+    if out.len() < 12 {
+        return 15;
     }
+    let finding = looked.finding;
+    let found = found_bytes(finding);
+    bytes::copy(&found, out);
+    0
 }
 
 #[no_mangle]
 pub extern "C" fn tuyqorem_page_after(calls: &[u8], out: &mut [u8]) -> u64
-    ensures { λ r. ⌜ PageReturned (count (decode (now (calls .entry)))) (now (out .entry)) (now (out .exit)) r ⌝ }
+    ensures returned { λ r. ⌜ returned r (now (out .exit)) ≡ pageReturned (page (bookAfter (now (calls .entry))) (now (out .entry))) ⌝ }
+    ensures told { λ _. ⌜ Demand3 (decode (now (calls .entry))) ⌝ }
 {
-    book::page_number(page_after(calls, out))
+    packed(page_after(calls, out))
+}
+
+// The answer of one more call, the first record of `call`; 255 where that is no whole record.
+#[no_mangle]
+pub extern "C" fn tuyqorem_answer_after(calls: &[u8], call: &[u8]) -> u64
+    ensures { λ r. ⌜ r ≡ replied (replyTo (bookAfter (now (calls .entry))) (front true (now (call .entry)))) ⌝ }
+{
+    let made = journal::make(replay(calls), call, true);
+    let reply = made.reply;
+    let verdict = made.verdict;
+    match reply {
+        Reply::Posted => packed(verdict),
+        Reply::Turned => packed(verdict),
+        Reply::Looked(_) => packed(verdict),
+        Reply::CutShort => 255,
+        Reply::NotKnown => 255,
+    }
 }

@@ -1,4 +1,4 @@
--- `found_bytes` meets its contract, byte by byte.
+-- Byte by byte.
 use borrow.Author.Needs.{needs}
 use Rattle.replay.proofs.found_bytes.Statement.{statement}
 use Rattle.replay.proofs.found_bytes.Tie as tie

@@ -1,7 +1,16 @@
--- `look_after` meets its contract: the replay leaves the book of the calls, and the ledger says what it answers.
+-- The look-up of the replayed book, of which demand 3 tells.
+use mathlib.Core.Path.{_≡_, ap, subst⁻¹, _∙_}
 use denote.Ref.{now}
-use Rattle.ledger.proofs.Told.{look-told}
-use Rattle.replay.specs.Journal.{decode}
+use Rattle.method.specs.Grounds.{Outcome}
+use Rattle.ledger.specs.Answers.{Finding}
+use Rattle.ledger.specs.Book.{Book, lookUp}
+use Rattle.ledger.specs.Calls.{lookAt}
+use Rattle.ledger.specs.Count.{count}
+use Rattle.ledger.specs.Tells.{LookTells}
+use Rattle.ledger.proofs.Theorem.{demand-3}
+use Rattle.grounds.specs.Verdicts.{resultOr}
+use Rattle.book.specs.Views.{noFinding}
+use Rattle.journal.specs.Journal.{decode}
 use borrow.Author.Needs.{needs}
 use Rattle.replay.proofs.look_after.Statement.{statement}
 use Rattle.replay.proofs.look_after.Tie as tie
@@ -13,7 +22,14 @@ look-up-requires : tie.Need-look-up-requires
 look-up-requires c κs = search needs
 
 returns : tie.Need-returns
-returns c = rw (c .look-up .ensures, c .before .replay .ensures) (look-told (decode (now (c .before .before .before .args .calls))) (c .before .before .before .args .year))
+returns c =
+    let looked = c .look-up .ensures in
+    let book = c .before .replay .ensures in
+    let a = c .before .before .before .args in
+    let cs = decode (now (a .calls)) in
+    let outcome = looked .0 ∙ ap (λ (b : Book). lookUp b (a .year)) book in
+    let beside = looked .1 ∙ ap (λ (b : Book). resultOr noFinding (lookUp b (a .year))) book in
+    (outcome, (beside, subst⁻¹ (λ (o : Outcome Finding). LookTells (count cs) (a .year) o) outcome (demand-3 cs (lookAt (a .year)))))
 
 pub look-after-spec : {M : Type 1} → statement M
 look-after-spec = tie.close (tie.spec replay-requires look-up-requires returns)

@@ -1,8 +1,12 @@
--- `page_after` meets its contract: the replay leaves the book of the calls, and the ledger says what page it writes.
-use mathlib.Core.Path.{ap}
-use Rattle.ledger.specs.Book.{Paged}
-use Rattle.ledger.proofs.Told.{page-told}
-use Rattle.replay.specs.Journal.{decode}
+-- The page of the replayed book, of which demand 3 tells.
+use mathlib.Core.Path.{_≡_, ap, subst⁻¹, _∙_}
+use denote.Ref.{now}
+use Rattle.ledger.specs.Book.{Book, Paged, page}
+use Rattle.ledger.specs.Calls.{pageInto}
+use Rattle.ledger.specs.Count.{count}
+use Rattle.ledger.specs.Tells.{PageTells}
+use Rattle.ledger.proofs.Theorem.{demand-3}
+use Rattle.journal.specs.Journal.{decode}
 use borrow.Author.Needs.{needs}
 use Rattle.replay.proofs.page_after.Statement.{statement}
 use Rattle.replay.proofs.page_after.Tie as tie
@@ -17,7 +21,14 @@ same-length : tie.Need-same-length
 same-length c = search needs
 
 returns : tie.Need-returns
-returns c = rw (ap (λ (p : Paged). p .buffer) (c .before .before .page .ensures), ap (λ (p : Paged). p .answer) (c .before .before .page .ensures), c .before .before .before .before .replay .ensures) (page-told (decode _) _)
+returns c =
+    let at-page = c .before .before in
+    let at-replay = at-page .before .before in
+    let a = at-replay .before .before .before .args in
+    let cs = decode (now (a .calls)) in
+    let lent = now (a .out) in
+    let paged = at-page .page .ensures ∙ ap (λ (b : Book). page b lent) (at-replay .replay .ensures) in
+    (paged, subst⁻¹ (λ (p : Paged). PageTells (count cs) lent p) paged (demand-3 cs (pageInto lent)))
 
 pub page-after-spec : {M : Type 1} → statement M
 page-after-spec = tie.close (tie.spec replay-requires page-requires same-length returns)

@@ -1,15 +1,15 @@
--- `replay` meets its contract. The loop's invariant: the calls that are left lead from the book in hand to the book of all calls.
-use native.Mathlib.Omega.{arith}
-use borrow.Author.Needs.{needs}
+-- Invariant: the calls that are left lead from the book in hand to the book of all calls.
 use Prim.Native.Nat.{_-_}
+use native.Mathlib.Omega.{arith}
 use lib.ListN.{length}
-use Rattle.book.specs.Answers.{bookIn}
-use Rattle.replay.proofs.Making.{Reached, begins, ends, stops-here, goes-on}
+use Rattle.book.specs.Views.{asBook}
+use Rattle.journal.proofs.Decoding.{Reached, begins, ends, stops-here, goes-on}
+use borrow.Author.Needs.{needs}
 use Rattle.replay.proofs.replay.Statement.{statement}
 use Rattle.replay.proofs.replay.Tie as tie
 
 abbrev Inv-loop : tie.InvT-loop
-Inv-loop calls book₀ at₀ book at = Reached calls (bookIn book) at
+Inv-loop calls book₀ at₀ book at = Reached calls (asBook book) at
 
 abbrev μ-loop : tie.MeasureT-loop
 μ-loop calls book₀ at₀ book at = length calls - at
@@ -20,20 +20,22 @@ fresh-requires c κs = search needs
 loop-holds : tie.Need-loop-holds Inv-loop μ-loop
 loop-holds c = rw (c .fresh .ensures) (begins _)
 
-sub-make-call : tie.Need-sub-make-call Inv-loop μ-loop
-sub-make-call c = search needs
+sub-make : tie.Need-sub-make Inv-loop μ-loop
+sub-make c = search needs
 
-part-make-call-start : tie.Need-part-make-call-start Inv-loop μ-loop
-part-make-call-start c = search needs
+part-make-start : tie.Need-part-make-start Inv-loop μ-loop
+part-make-start c = search needs
 
-part-make-call-end : tie.Need-part-make-call-end Inv-loop μ-loop
-part-make-call-end c = search needs
+part-make-end : tie.Need-part-make-end Inv-loop μ-loop
+part-make-end c = search needs
 
-make-call-requires : tie.Need-make-call-requires Inv-loop μ-loop
-make-call-requires c κs = search needs
+make-requires : tie.Need-make-requires Inv-loop μ-loop
+make-requires c κs = search needs
 
 returns : tie.Need-returns Inv-loop μ-loop
-returns c = stops-here _ _ _ (c .before .before .before .before .before .loop .inv) _ (c .before .before .make-call .ensures) (c .if1 .taken)
+returns c =
+    let at-made = c .before .before in
+    stops-here _ _ _ (at-made .before .before .before .loop .inv) _ (at-made .make .ensures) (c .if1 .taken)
 
 add-at : tie.Need-add-at Inv-loop μ-loop
 add-at c = search needs
@@ -42,7 +44,9 @@ loop-less : tie.Need-loop-less Inv-loop μ-loop
 loop-less c = search needs
 
 loop-again : tie.Need-loop-again Inv-loop μ-loop
-loop-again c = goes-on _ _ _ (c .before .before .before .before .before .loop .inv) _ (c .before .before .make-call .ensures) (omega arith) (omega arith)
+loop-again c =
+    let at-made = c .before .before in
+    goes-on _ _ _ (at-made .before .before .before .loop .inv) _ (at-made .make .ensures) (omega arith) (omega arith)
 
 returns-2 : tie.Need-returns-2 Inv-loop μ-loop
 returns-2 c = ends _ _ _ (c .before .loop .inv) (c .loop-test .left)
@@ -55,10 +59,10 @@ replay-spec =
     μ-loop
     fresh-requires
     loop-holds
-    sub-make-call
-    part-make-call-start
-    part-make-call-end
-    make-call-requires
+    sub-make
+    part-make-start
+    part-make-end
+    make-requires
     returns
     add-at
     loop-less

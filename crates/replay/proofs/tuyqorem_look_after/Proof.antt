@@ -1,6 +1,14 @@
--- `tuyqorem_look_after` meets its contract, by each answer.
+-- The answer as one number; a finding in twelve bytes where there is room.
+use mathlib.Core.Path.{_≡_}
 use native.Mathlib.Omega.{arith}
-use Rattle.replay.proofs.Returning.{outside, no-curve, too-short, found}
+use denote.Ref.{now}
+use Rattle.ledger.specs.Calls.{lookAt, asks, run}
+use Rattle.ledger.proofs.Places.{answer-place}
+use Rattle.ledger.proofs.Theorem.{demand-3}
+use Rattle.grounds.proofs.Chain.{at-verdict}
+use Rattle.book.specs.Views.{asFinding}
+use Rattle.journal.specs.Journal.{decode}
+use Rattle.replay.proofs.Returning.{place-small, look-refused, look-short, look-found}
 use borrow.Author.Needs.{needs}
 use Rattle.replay.proofs.tuyqorem_look_after.Statement.{statement}
 use Rattle.replay.proofs.tuyqorem_look_after.Tie as tie
@@ -8,11 +16,34 @@ use Rattle.replay.proofs.tuyqorem_look_after.Tie as tie
 look-after-requires : tie.Need-look-after-requires
 look-after-requires c κs = search needs
 
-enum-known-answer : tie.Need-enum-known-answer
-enum-known-answer c = search needs
+enum-told : tie.Need-enum-told
+enum-told c = search needs
+
+enum-told-2 : tie.Need-enum-told-2
+enum-told-2 c = search needs
+
+packed-requires : tie.Need-packed-requires
+packed-requires c κs =
+    let at-look = c .before .before in
+    let a = at-look .before .before .before .args in
+    let looked = at-look .look-after in
+    place-small (looked .result .verdict) (asFinding (looked .result .finding)) (looked .ensures .0)
+    (answer-place (run (decode (now (a .calls)))) (asks (lookAt (a .year))))
 
 returns : tie.Need-returns
-returns c = too-short _ _ (c .before .before .before .before .look-after .ensures) (c .before .before .answer .given .1) (c .if1 .taken)
+returns c =
+    let at-look = c .before .before .before in
+    let a = at-look .before .before .before .args in
+    let told = c .before .enum-told2 .given .1 in
+    let refusal = at-verdict _ told (at-look .look-after .ensures .0) in
+    (look-refused (now (a .out)) told refusal (c .packed .ensures), demand-3 (decode (now (a .calls))))
+
+returns-2 : tie.Need-returns-2
+returns-2 c =
+    let at-look = c .before .before .before in
+    let a = at-look .before .before .before .args in
+    let found = at-verdict _ (c .before .enum-told .given .1) (at-look .look-after .ensures .0) in
+    (look-short (now (a .out)) _ found (c .if1 .taken), demand-3 (decode (now (a .calls))))
 
 found-bytes-requires : tie.Need-found-bytes-requires
 found-bytes-requires c κs = search needs
@@ -23,37 +54,35 @@ slice-aggregate-copy c = search needs
 copy-requires : tie.Need-copy-requires
 copy-requires c κs = search needs
 
-enum-told : tie.Need-enum-told
-enum-told c = search needs
-
-enum-told-2 : tie.Need-enum-told-2
-enum-told-2 c = search needs
-
 same-length : tie.Need-same-length
 same-length c = search needs
 
-returns-2 : tie.Need-returns-2
-returns-2 c = found _ _ (c .before .before .before .before .before .before .before .before .before .before .look-after .ensures) (c .before .before .before .before .before .before .before .before .answer .given .1) _ _ (c .before .before .before .before .before .found-bytes .ensures) (c .before .before .copy .ensures .1) (omega arith)
-
 returns-3 : tie.Need-returns-3
-returns-3 c = outside _ _ (c .before .before .look-after .ensures) (c .enum-told .given .1)
-
-returns-4 : tie.Need-returns-4
-returns-4 c = no-curve _ _ (c .before .before .look-after .ensures) (c .enum-told2 .given .1)
+returns-3 c =
+    let at-copy = c .before .before in
+    let at-bytes = at-copy .before .before .before in
+    let at-room = at-bytes .before .before in
+    let at-told = at-room .before in
+    let at-look = at-told .before .before in
+    let a = at-look .before .before .before .args in
+    let found = at-verdict _ (at-told .enum-told .given .1) (at-look .look-after .ensures .0) in
+    let bytes = at-bytes .found-bytes in (
+      look-found (now (a .out)) _ found (bytes .result) _ (bytes .ensures) (at-copy .copy .ensures .1) (at-room .if1 .left),
+      demand-3 (decode (now (a .calls))),
+    )
 
 pub tuyqorem-look-after-spec : {M : Type 1} → statement M
 tuyqorem-look-after-spec =
     tie.close
     (tie.spec
     look-after-requires
-    enum-known-answer
+    enum-told
+    enum-told-2
+    packed-requires
     returns
+    returns-2
     found-bytes-requires
     slice-aggregate-copy
     copy-requires
-    enum-told
-    enum-told-2
     same-length
-    returns-2
-    returns-3
-    returns-4)
+    returns-3)

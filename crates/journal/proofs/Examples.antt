@@ -1,42 +1,52 @@
 -- Worked examples of the journal.
+use mathlib.Core.Bool.{true, false}
 use mathlib.Core.Path.{_≡_, refl}
 use mathlib.Core.List.{List, [], _∷_}
 use Prim.Native.Nat.{ℕ}
-use Rattle.ledger.specs.Calls.{Call, postOf, turnTo, lookAt}
-use Rattle.replay.specs.Journal.{whole, entry, decodeFrom, decode}
+use Rattle.ledger.specs.Calls.{Call, postOf, turnTo, lookAt, asks}
+use Rattle.journal.specs.Journal.{whole, cut, unknown, front, decodeFrom, decode}
 
 -- a turn to month 2 × 256 + 1, a post of two bytes, a look-up of year 150
-day : decode (0x4D ∷ 2 ∷ 1 ∷ 0x50 ∷ 0 ∷ 2 ∷ 7 ∷ 8 ∷ 0x4C ∷ 150 ∷ []) ≡ turnTo 513 ∷ postOf (7 ∷ 8 ∷ []) ∷ lookAt 150 ∷ []
-unfolding decode decodeFrom entry whole
+day : decode (0x4D ∷ 2 ∷ 1 ∷ 0x50 ∷ 0 ∷ 2 ∷ 7 ∷ 8 ∷ 0x4C ∷ 150 ∷ []) ≡ turnTo 513 ∷ postOf (7 ∷ 8 ∷ []) ∷ asks (lookAt 150) ∷ []
+unfolding decode decodeFrom front
 day = refl
 
 -- an unknown kind ends the reading, whatever comes after it
 unknown-kind : decode (0x4D ∷ 0 ∷ 5 ∷ 0x51 ∷ 0x4D ∷ 0 ∷ 6 ∷ []) ≡ turnTo 5 ∷ []
-unfolding decode decodeFrom entry whole
+unfolding decode decodeFrom front
 unknown-kind = refl
 
 -- so does a sheet with a byte less than its length says, a month or a length of one byte, a missing year
 cut-sheet : decode (0x4D ∷ 0 ∷ 5 ∷ 0x50 ∷ 0 ∷ 3 ∷ 7 ∷ 8 ∷ []) ≡ turnTo 5 ∷ []
-unfolding decode decodeFrom entry whole
+unfolding decode decodeFrom front
 cut-sheet = refl
 
 cut-month : decode (0x4D ∷ 0 ∷ []) ≡ []
-unfolding decode decodeFrom entry whole
+unfolding decode decodeFrom front
 cut-month = refl
 
 cut-length : decode (0x50 ∷ 0 ∷ []) ≡ []
-unfolding decode decodeFrom entry whole
+unfolding decode decodeFrom front
 cut-length = refl
 
 no-year : decode (0x4C ∷ []) ≡ []
-unfolding decode decodeFrom entry whole
+unfolding decode decodeFrom front
 no-year = refl
 
 -- a post of no bytes at all is a call
 empty-sheet : decode (0x50 ∷ 0 ∷ 0 ∷ []) ≡ postOf [] ∷ []
-unfolding decode decodeFrom entry whole
+unfolding decode decodeFrom front
 empty-sheet = refl
 
 nothing : decode [] ≡ []
 unfolding decode decodeFrom
 nothing = refl
+
+-- a post's record that is not framed has 110 bytes: 109 are not enough, and its next two bytes are the sheet's own
+unframed : front false (0x50 ∷ 0 ∷ 2 ∷ 7 ∷ 8 ∷ []) ≡ cut
+unfolding front
+unframed = refl
+
+no-kind : front false (0x51 ∷ []) ≡ unknown
+unfolding front
+no-kind = refl

@@ -1,0 +1,4 @@
+pub mod Making
+pub mod Decoding
+pub mod Encoding
+pub mod Examples

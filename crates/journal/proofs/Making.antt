@@ -1,0 +1,124 @@
+-- What is handed back where a record is cut, where it is whole, and where its kind is not known.
+use mathlib.Core.Path.{_≡_, refl, ap, sym, _∙_}
+use mathlib.Core.Bool.{Bool}
+use mathlib.Core.List.{List}
+use Prim.Native.Nat.{ℕ, _+_, _-_, _≤_, _<_}
+use native.Mathlib.Nat.{add-sub-cancel-left}
+use native.Mathlib.Omega.{arith}
+use lib.ListN.{length, getD, take, drop}
+use borrow.Author.Tests.{le-leb, lt-leb, eq-eqb, ne-eqb}
+use Rattle.ledger.specs.Answers as answer
+use Rattle.ledger.specs.Book as ledger
+use Rattle.ledger.specs.Book.{post, turn, lookUp}
+use Rattle.ledger.specs.Calls.{Call, postOf, turnTo, lookAt, asks}
+use Rattle.ledger.specs.Tells.{read2}
+use Rattle.method.specs.Grounds.{Outcome}
+use Rattle.grounds.specs.declared.Verdict.{Verdict}
+use Rattle.grounds.specs.Verdicts.{asOutcome, resultOr}
+use Rattle.book.specs.declared.Book.{Book}
+use Rattle.book.specs.declared.Booked.{Booked}
+use Rattle.book.specs.declared.Finding.{Finding}
+use Rattle.book.specs.declared.Looked.{Looked}
+use Rattle.book.specs.Views.{asBook, asBooked, asFinding, noFinding}
+use Rattle.journal.specs.Journal.{Front, whole, cut, unknown, recordOf, postFront, turnFront, lookFront, front}
+use Rattle.journal.specs.Replies.{posted, turned, looked, replyTo, bookAfter, taken}
+use Rattle.journal.specs.Made.{asReply, monthBeside, findingBeside, NoCall, MakesFront}
+use Rattle.journal.specs.declared.Reply.{Reply}
+use Rattle.journal.specs.declared.Reply.the-variants.{Posted, Turned, Looked as LookedAt, CutShort, NotKnown}
+use Rattle.journal.specs.declared.Made.{Made}
+
+-- ---- no call
+
+module _ {book : Book} (s : List ℕ) {r : Made} where
+  uncalled : (reply : Reply) (f : Front) → NoCall book reply r →
+      ((v : Verdict) (m : ℕ) (d : Finding) → asReply reply v m d ≡ replyTo (asBook book) f) →
+      0 ≡ monthBeside (replyTo (asBook book) f) → noFinding ≡ findingBeside (replyTo (asBook book) f) →
+      asBook book ≡ bookAfter (asBook book) f → 0 ≡ taken f → MakesFront (asBook book) s f r
+  uncalled reply f n same m d k t =
+      record {
+        reply = ap (λ (x : Reply). asReply x (r .verdict) (r .month) (r .finding)) (n .reply-kept) ∙ same (r .verdict) (r .month) (r .finding);
+        month = n .month ∙ m;
+        finding = n .finding ∙ d;
+        book = ap asBook (n .book-kept) ∙ k;
+        bytes = n .bytes ∙ t;
+        within = omega (arith, n .bytes);
+      }
+
+  cut-made : NoCall book CutShort r → MakesFront (asBook book) s cut r
+  cut-made n = uncalled CutShort cut n (λ v m d. refl) refl refl refl refl
+
+  unknown-made : NoCall book NotKnown r → MakesFront (asBook book) s unknown r
+  unknown-made n = uncalled NotKnown unknown n (λ v m d. refl) refl refl refl refl
+
+  pub record-cut : (n : ℕ) (c : Call) → length s < n → NoCall book CutShort r → MakesFront (asBook book) s (recordOf s n c) r
+  record-cut n c h m = rw (lt-leb n (length s) h) (cut-made m)
+
+-- ---- the book's own functions were called with what the record says
+
+module _ (b : ledger.Book) (s : List ℕ) (n : ℕ) (room : n ≤ length s) (none : Finding) (zeros : asFinding none ≡ noFinding) (r : Booked) where
+  abbrev made : Reply → Made
+  made reply = record { reply = reply; verdict = r .verdict; month = r .month; finding = none; taken = n; book = r .book }
+
+  pub post-made : (sheet : List ℕ) → asBooked r ≡ post b sheet → r .month ≡ resultOr 0 (post b sheet .answer) →
+      MakesFront b s (recordOf s n (postOf sheet)) (made Posted)
+  post-made sheet e m =
+      rw (le-leb n (length s) room)
+      (record {
+        reply = ap (λ (p : ledger.Booked). posted (p .answer)) e;
+        month = m;
+        finding = zeros;
+        book = ap (λ (p : ledger.Booked). p .book) e;
+        bytes = refl;
+        within = room;
+      })
+
+  pub turn-made : (month : ℕ) → asBooked r ≡ turn b month → r .month ≡ resultOr 0 (turn b month .answer) →
+      MakesFront b s (recordOf s n (turnTo month)) (made Turned)
+  turn-made month e m =
+      rw (le-leb n (length s) room)
+      (record {
+        reply = ap (λ (p : ledger.Booked). turned (p .answer)) e;
+        month = m;
+        finding = zeros;
+        book = ap (λ (p : ledger.Booked). p .book) e;
+        bytes = refl;
+        within = room;
+      })
+
+module _ (book : Book) (s : List ℕ) (n : ℕ) (room : n ≤ length s) (year : ℕ) (r : Looked) where
+  pub look-made : asOutcome (r .verdict) (asFinding (r .finding)) ≡ lookUp (asBook book) year →
+      asFinding (r .finding) ≡ resultOr noFinding (lookUp (asBook book) year) →
+      MakesFront (asBook book) s (recordOf s n (asks (lookAt year)))
+      (record { reply = LookedAt year; verdict = r .verdict; month = 0; finding = r .finding; taken = n; book = book })
+  look-made e f =
+      rw (le-leb n (length s) room)
+      (record { reply = ap (looked year) e; month = refl; finding = f; book = refl; bytes = refl; within = room })
+
+-- ---- by the kind byte
+
+module _ (framed : Bool) (book : Book) (s : List ℕ) (r : Made) where
+  abbrev Made-front : Type 0
+  Made-front = MakesFront (asBook book) s (front framed s) r
+
+  pub at-end : length s ≡ 0 → NoCall book CutShort r → Made-front
+  unfolding front
+  at-end e n = rw (eq-eqb (length s) 0 e) (cut-made s n)
+
+  module _ (some : length s ≡ 0 → ⊥) where
+    pub at-post : getD s 0 0 ≡ 0x50 → MakesFront (asBook book) s (postFront framed s) r → Made-front
+    unfolding front
+    at-post e m = rw (ne-eqb (length s) 0 some, eq-eqb (getD s 0 0) 0x50 e) m
+
+    pub at-turn : (getD s 0 0 ≡ 0x50 → ⊥) → getD s 0 0 ≡ 0x4D → MakesFront (asBook book) s (turnFront s) r → Made-front
+    unfolding front
+    at-turn p e m = rw (ne-eqb (length s) 0 some, ne-eqb (getD s 0 0) 0x50 p, eq-eqb (getD s 0 0) 0x4D e) m
+
+    pub at-look : (getD s 0 0 ≡ 0x50 → ⊥) → (getD s 0 0 ≡ 0x4D → ⊥) → getD s 0 0 ≡ 0x4C → MakesFront (asBook book) s (lookFront s) r → Made-front
+    unfolding front
+    at-look p t e m =
+        rw (ne-eqb (length s) 0 some, ne-eqb (getD s 0 0) 0x50 p, ne-eqb (getD s 0 0) 0x4D t, eq-eqb (getD s 0 0) 0x4C e) m
+
+    pub at-unknown : (getD s 0 0 ≡ 0x50 → ⊥) → (getD s 0 0 ≡ 0x4D → ⊥) → (getD s 0 0 ≡ 0x4C → ⊥) → NoCall book NotKnown r → Made-front
+    unfolding front
+    at-unknown p t l n =
+        rw (ne-eqb (length s) 0 some, ne-eqb (getD s 0 0) 0x50 p, ne-eqb (getD s 0 0) 0x4D t, ne-eqb (getD s 0 0) 0x4C l) (unknown-made s n)

@@ -1,0 +1,103 @@
+-- SPECIFICATION 11: records, calls written as bytes. Any bytes mean some list of calls.
+use mathlib.Core.Bool.{Bool, true, false, cond}
+use mathlib.Core.List.{List, [], _∷_, _++_}
+use Prim.Native.Nat.{ℕ, zero, suc, _+_, _-_, _<_}
+use lib.Dec.{leb, eqb}
+use lib.ListN.{length, getD, take, drop}
+use Rattle.method.specs.Bytes.{bytes2}
+use Rattle.ledger.specs.Calls.{Question, lookAt, pageInto, Call, postOf, turnTo, asks}
+use Rattle.ledger.specs.Tells.{read2}
+
+-- what stands at the front of the bytes: the call of a whole record of so many bytes; a record that is cut, or no byte at all;
+-- an unknown kind
+pub data Front : Type 0 where
+  whole : Call → ℕ → Front
+  cut : Front
+  unknown : Front
+
+-- ---- a post's record: framed, as in a journal, the sheet's length stands in two bytes before it; else the sheet has 109 bytes
+
+abbrev pub sheetAt : Bool → ℕ
+sheetAt true = 3
+sheetAt false = 1
+
+abbrev pub sheetLength : Bool → List ℕ → ℕ
+sheetLength true s = read2 s 1
+sheetLength false s = 109
+
+abbrev pub sheetIn : Bool → List ℕ → List ℕ
+sheetIn framed s = take (sheetLength framed s) (drop (sheetAt framed) s)
+
+-- ---- any record
+
+-- of n bytes, with its kind byte
+abbrev pub recordOf : List ℕ → ℕ → Call → Front
+recordOf s n c = cond (leb n (length s)) (whole c n) cut
+
+-- a sheet from `start` to the record's end
+abbrev pub postBetween : List ℕ → ℕ → ℕ → Front
+postBetween s start end = recordOf s end (postOf (take (end - start) (drop start s)))
+
+-- a sheet
+abbrev pub postFront : Bool → List ℕ → Front
+postFront framed s = recordOf s (sheetAt framed + sheetLength framed s) (postOf (sheetIn framed s))
+
+-- a month in two bytes
+abbrev pub turnFront : List ℕ → Front
+turnFront s = recordOf s 3 (turnTo (read2 s 1))
+
+-- a year in one
+abbrev pub lookFront : List ℕ → Front
+lookFront s = recordOf s 2 (asks (lookAt (getD s 1 0)))
+
+unfoldable pub front : Bool → List ℕ → Front
+front framed s =
+    cond (eqb (length s) 0) cut
+    (cond (eqb (getD s 0 0) 0x50) (postFront framed s)
+    (cond (eqb (getD s 0 0) 0x4D) (turnFront s)
+    (cond (eqb (getD s 0 0) 0x4C) (lookFront s)
+    unknown)))
+
+-- ---- a journal: its records one after the other, read until an unknown kind or a cut record
+
+abbrev pub andThen : Front → (List ℕ → List Call) → List ℕ → List Call
+andThen (whole c n) calls s = c ∷ calls (drop n s)
+andThen cut calls s = []
+andThen unknown calls s = []
+
+-- the first calls, at most so many
+unfoldable pub decodeFrom : ℕ → List ℕ → List Call
+decodeFrom zero s = []
+decodeFrom (suc most) s = andThen (front true s) (decodeFrom most) s
+
+-- all of them: each takes at least a byte
+unfoldable pub decode : List ℕ → List Call
+decode s = decodeFrom (length s) s
+
+-- ---- the other way: a call as bytes. A page, which leaves the book as it is, is not written
+
+unfoldable pub encoded : Call → List ℕ
+encoded (postOf s) = 0x50 ∷ bytes2 (length s) ++ s
+encoded (turnTo m) = 0x4D ∷ bytes2 m
+encoded (asks (lookAt y)) = 0x4C ∷ y ∷ []
+encoded (asks (pageInto l)) = []
+
+abbrev pub encode : List Call → List ℕ
+encode [] = []
+encode (c ∷ cs) = encoded c ++ encode cs
+
+-- numbers that are bytes
+abbrev pub AreBytes : List ℕ → Type 0
+AreBytes [] = Unit {0}
+AreBytes (b ∷ bs) = (b < 256) × AreBytes bs
+
+-- what a record has room for
+abbrev pub Fits : Call → Type 0
+Fits (postOf s) = (length s < 65_536) × AreBytes s
+Fits (turnTo m) = m < 65_536
+Fits (asks (lookAt y)) = y < 256
+Fits (asks (pageInto l)) = ⊥
+
+abbrev pub AllFit : List Call → Type 0
+AllFit [] = Unit {0}
+AllFit (c ∷ cs) = Fits c × AllFit cs

@@ -1,0 +1,148 @@
+// Records, calls written as bytes: the call at the front of some bytes, made on a book.
+use big_endian::two_bytes;
+use book::Book;
+use book::Finding;
+use grounds::Verdict;
+ghost use mathlib.Core.Path.{_≡_};
+ghost use Prim.Native.Nat.{_≤_};
+ghost use Rattle.book.specs.Views.{asBook, asFinding, noFinding};
+ghost use Rattle.journal.specs.Journal.{postBetween, postFront, turnFront, lookFront};
+ghost use Rattle.journal.specs.Made.{NoCall, MakesFront, Makes};
+
+// What was called; or why nothing was.
+pub enum Reply {
+    Posted,
+    Turned,
+    Looked(u64),
+    CutShort,
+    NotKnown,
+}
+
+// The month is a post's or a turn's, the finding a look-up's; all zero elsewhere. `taken` is the record's length, 0 without a call.
+pub struct Made {
+    pub reply: Reply,
+    pub verdict: Verdict,
+    pub month: u64,
+    pub finding: Finding,
+    pub taken: usize,
+    pub book: Book,
+}
+
+fn no_finding() -> Finding
+    ensures { λ r. ⌜ asFinding r ≡ noFinding ⌝ }
+{
+    Finding {
+        low: 0,
+        high: 0,
+        month: 0,
+        age: 0,
+    }
+}
+
+// The book is handed back as it was.
+fn no_call(book: Book, reply: Reply) -> Made
+    ensures { λ r. ⌜ NoCall book reply r ⌝ }
+{
+    Made {
+        reply: reply,
+        verdict: Verdict::Passed,
+        month: 0,
+        finding: no_finding(),
+        taken: 0,
+        book: book,
+    }
+}
+
+// The sheet stands from `start` to `end`, where the record ends.
+fn post_part(book: Book, rest: &[u8], start: usize, end: usize) -> Made
+    requires { ⌜ start ≤ end ⌝ }
+    ensures { λ r. ⌜ MakesFront (asBook book) (now (rest .entry)) (postBetween (now (rest .entry)) start end) r ⌝ }
+{
+    if rest.len() < end {
+        return no_call(book, Reply::CutShort);
+    }
+    let booked = book::post(book, &rest[start..end]);
+    let verdict = booked.verdict;
+    let next = booked.book;
+    Made {
+        reply: Reply::Posted,
+        verdict: verdict,
+        month: booked.month,
+        finding: no_finding(),
+        taken: end,
+        book: next,
+    }
+}
+
+// Framed, the sheet's length stands before it.
+fn make_post(book: Book, rest: &[u8], framed: bool) -> Made
+    ensures { λ r. ⌜ MakesFront (asBook book) (now (rest .entry)) (postFront framed (now (rest .entry))) r ⌝ }
+{
+    if !framed {
+        return post_part(book, rest, 1, 110);
+    }
+    if rest.len() < 3 {
+        return no_call(book, Reply::CutShort);
+    }
+    let length = two_bytes(rest[1], rest[2]) as usize;
+    post_part(book, rest, 3, 3 + length)
+}
+
+fn make_turn(book: Book, rest: &[u8]) -> Made
+    ensures { λ r. ⌜ MakesFront (asBook book) (now (rest .entry)) (turnFront (now (rest .entry))) r ⌝ }
+{
+    if rest.len() < 3 {
+        return no_call(book, Reply::CutShort);
+    }
+    let booked = book::turn(book, two_bytes(rest[1], rest[2]));
+    let verdict = booked.verdict;
+    let next = booked.book;
+    Made {
+        reply: Reply::Turned,
+        verdict: verdict,
+        month: booked.month,
+        finding: no_finding(),
+        taken: 3,
+        book: next,
+    }
+}
+
+fn make_look(book: Book, rest: &[u8]) -> Made
+    ensures { λ r. ⌜ MakesFront (asBook book) (now (rest .entry)) (lookFront (now (rest .entry))) r ⌝ }
+{
+    if rest.len() < 2 {
+        return no_call(book, Reply::CutShort);
+    }
+    let year = big_endian::wide(rest[1]);
+    let looked = book::look_up(book, year);
+    let verdict = looked.verdict;
+    let finding = looked.finding;
+    Made {
+        reply: Reply::Looked(year),
+        verdict: verdict,
+        month: 0,
+        finding: finding,
+        taken: 2,
+        book: book,
+    }
+}
+
+// Any bytes. With `framed` a post's sheet has its length before it, as in a journal; else it has 109 bytes.
+pub fn make(book: Book, rest: &[u8], framed: bool) -> Made
+    ensures { λ r. ⌜ Makes framed (asBook book) (now (rest .entry)) r ⌝ }
+{
+    if rest.len() == 0 {
+        return no_call(book, Reply::CutShort);
+    }
+    let kind = rest[0];
+    if kind == 0x50 {
+        return make_post(book, rest, framed);
+    }
+    if kind == 0x4D {
+        return make_turn(book, rest);
+    }
+    if kind == 0x4C {
+        return make_look(book, rest);
+    }
+    no_call(book, Reply::NotKnown)
+}
