@@ -1,17 +1,13 @@
 -- The digits that `io` puts are those of the definition.
-use mathlib.Core.Path.{_≡_, refl, ap, sym, _∙_}
 use mathlib.Core.Bool.{Bool, true, false}
-use mathlib.Core.List.{List, [], _∷_, _++_}
-use Prim.Native.Nat.{ℕ, zero, suc, _+_, _*_, _-_, _/_, _%_, _^_, _≤_, _<_}
+use mathlib.Core.Path.{_≡_, refl}
+use Prim.Native.Nat.{ℕ, zero, suc, _*_, _-_, _/_, _%_, _^_, _≤_, _<_}
 use native.Mathlib.Nat.{mod-eq-of-lt, pow-suc, one-le-pow, pow-le-pow-right}
 use native.Mathlib.Omega.{arith}
 use lib.Dec.{leb}
-use lib.ListN.{length, take}
 use borrow.Author.Tests.{leb-true, leb-false, lt-ltb, le-ltb}
 use Rattle.io.specs.Digits.{digits, glyph, Fewest}
 use Rattle.desk_core.specs.Lines.{digit, digitsTo, decimal}
-use Rattle.desk_core.specs.Put.{Puts}
-use Rattle.desk_core.proofs.Putting.{_then_}
 
 glyph-digit : (d : ℕ) → d < 10 → glyph d ≡ digit d
 glyph-digit d h = rw (lt-ltb d 10 h)
@@ -35,7 +31,7 @@ same-digits (suc most) (suc (suc k)) n l f =
     rw (le-ltb n 10 (omega arith), glyph-digit (n % 10) (omega arith), ← same-digits most (suc k) (n / 10) (omega arith) r)
 
 -- a number of 64 bits is below 10 ^ 20
-pub at-most-20 : (k n : ℕ) → n < 2 ^ 64 → Fewest 10 1 n k → k ≤ 20
+at-most-20 : (k n : ℕ) → n < 2 ^ 64 → Fewest 10 1 n k → k ≤ 20
 at-most-20 k n h f = go (leb k 20) refl
   where
     go : (t : Bool) → leb k 20 ≡ t → k ≤ 20
@@ -46,11 +42,3 @@ at-most-20 k n h f = go (leb k 20) refl
 
 pub decimal-is : (k n : ℕ) → n < 2 ^ 64 → Fewest 10 1 n k → digits 10 k n ≡ decimal n
 decimal-is k n h f = same-digits 20 k n (at-most-20 k n h f) f
-
--- a space and the digits
-pub number-put : (n k : ℕ) (text : List ℕ) {out mid exit : List ℕ} {at a e : ℕ} → n < 2 ^ 64 → Fewest 10 1 n k → k ≡ length (take k text) → take k text ≡ digits 10 k n →
-    Puts (0x20 ∷ []) out at mid a → Puts (take k text) mid a exit e → Puts (0x20 ∷ decimal n) out at exit e × (e ≤ at + 21)
-number-put n k text h f l d p q =
-    let b = at-most-20 k n h f in
-    let r = rw (d, decimal-is k n h f) at q in
-    (p then r, omega (arith, p .ends, q .ends))

@@ -1,5 +1,11 @@
+pub mod Lengths
+pub mod Fronts
+pub mod Printing
+pub mod Passes
+pub mod Cutting
+pub mod Examples
 pub mod Putting
 pub mod Decimal
-pub mod Refusals
-pub mod Serving
+pub mod Replying
 pub mod Moving
+pub mod Serving

@@ -1,47 +1,40 @@
--- Text put behind text.
+-- Bytes put behind bytes.
 use mathlib.Core.Path.{_≡_, refl, ap, sym, _∙_}
 use mathlib.Core.List.{List, [], _∷_, _++_, append-assoc, append-nil}
-use Prim.Native.Nat.{ℕ, _+_, _*_, _-_, _≤_, _<_}
+use Prim.Native.Nat.{ℕ, _+_, _-_, _≤_, _<_}
+use native.Mathlib.Nat.{zero-add}
 use native.Mathlib.Omega.{arith}
 use native.Mathlib.Numerals.{add-one}
-use lib.ListN.{length, getD, take, drop, length-append, length-drop}
-use lib.Seq.{length-take-le, take-at, take-length, take-suc}
-use Rattle.desk_core.specs.Lines.{decimal, spaced, line}
-use Rattle.desk_core.specs.Put.{Puts}
+use lib.ListN.{length, getD, take, drop, length-append, take-append-drop}
+use lib.Seq.{length-take-le, take-all, take-at, take-length, take-suc}
+use Rattle.desk_core.specs.Lines.{decimal, spaced}
+use Rattle.desk_core.specs.Handed.{Puts}
 
--- a part of the buffer that begins with the text, put back in its place
-pub put-back : (text out part : List ℕ) (at : ℕ) → at + length text ≤ length out →
-    part ≡ take (length text) text ++ drop (length text) (take (length out - at) (drop at out)) →
-    Puts text out at (take at out ++ (part ++ drop (length out - at) (drop at out))) (at + length text)
-put-back text out part at h e =
-    record { ends = refl; written = rw whole (take-at (take at out ++ text) tail (at + length text) front); same-length = rw whole (omega (arith, lengths)) }
+-- a part of the text that begins with the bytes, back in its place
+pub put-back : (bytes text part : List ℕ) (at : ℕ) → at + length bytes ≤ length text →
+    part ≡ take (length bytes) bytes ++ drop (length bytes) (take (length text - at) (drop at text)) →
+    Puts bytes text at (take at text ++ (part ++ drop (length text - at) (drop at text))) (at + length bytes)
+put-back bytes text part at h e = record { ends = refl; written = rw whole (take-at (take at text ++ bytes) tail (at + length bytes) front) }
   where
-    lent : List ℕ
-    lent = take (length out - at) (drop at out)
-
     tail : List ℕ
-    tail = drop (length text) lent ++ drop (length out - at) (drop at out)
+    tail = drop (length bytes) (take (length text - at) (drop at text)) ++ drop (length text - at) (drop at text)
 
-    whole : take at out ++ (part ++ drop (length out - at) (drop at out)) ≡ (take at out ++ text) ++ tail
-    whole = rw (e, take-length text) (simp append-assoc)
+    whole : take at text ++ (part ++ drop (length text - at) (drop at text)) ≡ (take at text ++ bytes) ++ tail
+    whole = rw (e, take-length bytes) (simp append-assoc)
 
-    front : length (take at out ++ text) ≡ at + length text
-    front = length-append (take at out) text ∙ (omega (arith, length-take-le at out (omega arith)))
+    front : length (take at text ++ bytes) ≡ at + length bytes
+    front = length-append (take at text) bytes ∙ omega (arith, length-take-le at text (omega arith))
 
-    lengths : length ((take at out ++ text) ++ tail) ≡ length out
-    lengths = simp (length-append, length-drop) (omega (arith, length-take-le at out (omega arith), length-take-le (length out - at) (drop at out) (omega (arith, length-drop at out)), length-drop at out))
-
-pub nothing : (out : List ℕ) (at : ℕ) → Puts [] out at out at
-nothing out at = record { ends = omega arith; written = sym (append-nil (take at out)); same-length = refl }
+pub nothing : (text : List ℕ) (at : ℕ) → Puts [] text at text at
+nothing text at = record { ends = omega arith; written = sym (append-nil (take at text)) }
 
 infixl 20 _then_
-pub _then_ : {s t out mid exit : List ℕ} {at a e : ℕ} → Puts s out at mid a → Puts t mid a exit e → Puts (s ++ t) out at exit e
-_then_ {s} {t} {out} {mid} {exit} {at} {a} {e} p q =
-    record {
-      ends = q .ends ∙ omega (arith, p .ends, length-append s t);
-      written = q .written ∙ rw (p .written, append-assoc);
-      same-length = q .same-length ∙ p .same-length;
-    }
+pub _then_ : {s t text mid exit : List ℕ} {at a e : ℕ} → Puts s text at mid a → Puts t mid a exit e → Puts (s ++ t) text at exit e
+_then_ {s} {t} p q = record { ends = q .ends ∙ omega (arith, p .ends, length-append s t); written = q .written ∙ rw (p .written, append-assoc) }
+
+-- put at the very front
+pub at-front : {bytes text exit : List ℕ} {end : ℕ} → Puts bytes text 0 exit end → take (length bytes) exit ≡ bytes
+at-front {bytes} {text} {exit} p = ap (λ (n : ℕ). take n exit) (sym (p .ends ∙ zero-add (length bytes))) ∙ p .written
 
 -- ---- numbers, one by one
 
@@ -49,14 +42,20 @@ spaced-append : (ns ms : List ℕ) → spaced (ns ++ ms) ≡ spaced ns ++ spaced
 spaced-append [] ms = refl
 spaced-append (n ∷ ns) ms = ap (λ (l : List ℕ). 0x20 ∷ l) (rw (spaced-append ns ms) (sym (append-assoc (decimal n) (spaced ns) (spaced ms))))
 
-pub one-more : (ns : List ℕ) (i : ℕ) {out mid exit : List ℕ} {at a e : ℕ} → i < length ns → Puts (spaced (take i ns)) out at mid a →
-    Puts (0x20 ∷ decimal (getD ns i 0)) mid a exit e → Puts (spaced (take (i + 1) ns)) out at exit e
-one-more ns i h p q = rw (add-one, take-suc ns i 0, spaced-append, append-nil) (p then q)
+-- the first i numbers, and one more
+spaced-suc : (ns : List ℕ) (i : ℕ) → i < length ns → spaced (take (i + 1) ns) ≡ spaced (take i ns) ++ (0x20 ∷ decimal (getD ns i 0))
+spaced-suc ns i h = rw (add-one, take-suc ns i 0, spaced-append, append-nil)
 
-pub all-of : (ns : List ℕ) (i : ℕ) {out exit : List ℕ} {at e : ℕ} → length ns ≤ i → i ≤ length ns → Puts (spaced (take i ns)) out at exit e → Puts (spaced ns) out at exit e
-all-of ns i h k p = let e : i ≡ length ns = omega arith in rw (e, take-length) at p
+pub one-more : (ns : List ℕ) (i : ℕ) {text mid exit : List ℕ} {at a e : ℕ} → i < length ns → Puts (spaced (take i ns)) text at mid a →
+    Puts (0x20 ∷ decimal (getD ns i 0)) mid a exit e → Puts (spaced (take (i + 1) ns)) text at exit e
+one-more ns i h p q = rw (spaced-suc ns i) (p then q)
 
-pub line-put : (letter : ℕ) (ns : List ℕ) {out mid last exit : List ℕ} {at a b e : ℕ} → Puts (letter ∷ []) out at mid a →
-    Puts (spaced ns) mid a last b × (b ≤ a + 21 * length ns) → Puts (0x0A ∷ []) last b exit e →
-    Puts (line letter ns) out at exit e × (e ≤ at + 21 * length ns + 2)
-line-put letter ns p q r = (p then q .0 then r, omega (arith, p .ends, q .1, r .ends))
+-- the next number fits where all of them do
+pub room-for : (ns : List ℕ) (i : ℕ) → i < length ns → length (spaced (take i ns)) + length (0x20 ∷ decimal (getD ns i 0)) ≤ length (spaced ns)
+room-for ns i h =
+    let split = ap (λ (l : List ℕ). length (spaced l)) (take-append-drop (i + 1) ns) in
+    let first = ap length (spaced-suc ns i h) in
+    omega (arith, simp (spaced-append, length-append) at split, simp length-append at first)
+
+pub all-of : (ns : List ℕ) (i : ℕ) {text exit : List ℕ} {at e : ℕ} → length ns ≤ i → Puts (spaced (take i ns)) text at exit e → Puts (spaced ns) text at exit e
+all-of ns i h p = rw (take-all i ns h) at p

@@ -1,85 +1,45 @@
--- A block, record by record.
-use mathlib.Core.Bool.{Bool, true, false, cond}
+-- The loop of a pass, record by record: the lines put so far, and then the pass over what is left.
+use mathlib.Core.Bool.{Bool, false}
 use mathlib.Core.Path.{_≡_, refl, ap, sym, _∙_}
-use mathlib.Core.List.{List, [], _∷_, _++_, append-assoc, append-nil}
-use Prim.Native.Nat.{ℕ, zero, suc, _+_, _*_, _-_, _≤_, _<_}
-use native.Mathlib.Nat.{add-zero, zero-add, add-assoc, add-sub-cancel-left}
+use mathlib.Core.List.{List, [], _++_, append-assoc, append-nil}
+use Prim.Native.Nat.{ℕ, _+_, _-_, _%_, _^_, _≤_, _<_}
+use native.Mathlib.Nat.{add-zero, zero-add, add-assoc}
 use native.Mathlib.Omega.{arith}
-use lib.Dec.{eqb}
 use lib.ListN.{length, getD, take, drop, length-drop}
-use lib.Seq.{length-take-le, drop-drop, getD-take, getD-drop}
-use borrow.Author.Tests.{eq-eqb, ne-eqb, le-leb, lt-leb}
+use lib.Seq.{length-take-le, drop-drop}
 use Rattle.ledger.specs.Book.{Book}
-use Rattle.ledger.specs.Calls.{Call, after}
 use Rattle.book.specs.declared.Book.{Book as DeclaredBook}
-use Rattle.book.specs.Answers.{bookIn}
+use Rattle.book.specs.Views.{asBook}
+use Rattle.journal.specs.Journal.{Front, whole, cut, unknown, front}
+use Rattle.journal.specs.Replies as journal
+use Rattle.journal.specs.Replies.{replyTo, bookAfter}
+use Rattle.desk_core.specs.declared.Desk.{Desk as DeclaredDesk}
 use Rattle.desk_core.specs.declared.Answered.{Answered}
 use Rattle.desk_core.specs.declared.Served.{Served}
+use Rattle.desk_core.specs.declared.Passed.{Passed}
 use Rattle.desk_core.specs.Lines.{lineOf}
-use Rattle.desk_core.specs.Desk.{recordLength, callOf, Front, whole, cut, unknown, front, Serving, stopping, behind, servedAt, servedFrom, served}
-use Rattle.desk_core.specs.Put.{Puts, Answers, Serves}
+use Rattle.desk_core.specs.Desk.{framed, Serving, stopping, behind, lineRoom, servedAt, servedFrom, served, Desk, pass}
+use Rattle.desk_core.specs.Handed.{isUnknown, Answers, Serves, Waits, asDesk, Passes}
+use Rattle.desk_core.proofs.Lengths.{reply-short}
+use Rattle.desk_core.proofs.Fronts.{front-stands, cut-short, taken-within}
+use Rattle.desk_core.proofs.Passes.{roomy, full, takes-nothing}
 
-pub answers : {b : Book} {c : Call} {out exit text : List ℕ} {at : ℕ} {r : Answered} → bookIn (r .book) ≡ after b c → text ≡ lineOf b c →
-    Puts text out at exit (r .end) × (r .end ≤ at + 128) → Answers b c out at exit r
-answers e t p = record { book = e; line = rw t at (p .0); short = p .1 }
+-- ---- by what stands at the front
 
--- ---- a record's length
+-- no whole record: nothing is served, and nothing was put
+stops-at : (x : Front) (room : ℕ) (b : Book) (s : List ℕ) (next : ℕ → Book → List ℕ → Serving) → front framed s ≡ x → journal.taken x ≡ 0 →
+    (servedAt x room b s next ≡ stopping b (isUnknown x)) × (lineOf (replyTo b x) ≡ [])
+stops-at (whole c n) room b s next e z = absurd (omega (arith, front-stands framed s [] .within e .0))
+stops-at cut room b s next e z = (refl, refl)
+stops-at unknown room b s next e z = (refl, refl)
 
-lengths : (a b c : Bool) (n : ℕ) → cond a 110 (cond b 3 (cond c 2 0)) ≡ n → 0 < n → (2 ≤ n) × (n ≤ 110)
-lengths true b c n e h = (omega arith, omega arith)
-lengths false true c n e h = (omega arith, omega arith)
-lengths false false true n e h = (omega arith, omega arith)
-lengths false false false n e h = absurd (omega arith)
-
-pub record-bounds : (kind n : ℕ) → recordLength kind ≡ n → 0 < n → (2 ≤ n) × (n ≤ 110)
-unfolding recordLength
-record-bounds kind n e h = lengths (eqb kind 0x50) (eqb kind 0x4D) (eqb kind 0x4C) n e h
-
-pub turn-length : (kind n : ℕ) → kind ≡ 0x4D → recordLength kind ≡ n → 3 ≤ n
-unfolding recordLength
-turn-length kind n k e = let f : 3 ≡ n = rw k at e in omega arith
-
--- ---- the record at a place of the block
-
--- the part that is lent
-abbrev part : List ℕ → ℕ → ℕ → List ℕ
-part block at n = take (at + n - at) (drop at block)
-
-part-is : (block : List ℕ) (at n : ℕ) → part block at n ≡ take n (drop at block)
-part-is block at n = ap (λ (k : ℕ). take k (drop at block)) (add-sub-cancel-left at n)
-
-kind-at : (block : List ℕ) (at : ℕ) → getD (drop at block) 0 0 ≡ getD block at 0
-kind-at block at = getD-drop at block 0 0 ∙ ap (λ (k : ℕ). getD block k 0) (add-zero at)
-
-part-record : (block : List ℕ) (at n : ℕ) → n ≡ recordLength (getD block at 0) → 0 < n → at + n ≤ length block →
-    (0 < length (part block at n)) × (recordLength (getD (part block at n) 0 0) ≡ length (part block at n))
-part-record block at n e h k =
-    let l : length (take n (drop at block)) ≡ n = length-take-le n (drop at block) (omega (arith, length-drop at block)) in
-    rw (part-is block at n, l, getD-take n (drop at block) 0 0 h, kind-at block at) (h, sym e)
-
-same : (t : Bool) → cond t cut cut ≡ cut
-same true = refl
-same false = refl
-
-module _ (s : List ℕ) (n : ℕ) (e : recordLength (getD s 0 0) ≡ n) where
-  pub front-unknown : 0 < length s → n ≡ 0 → front s ≡ unknown
-  unfolding front
-  front-unknown h z = rw (ne-eqb (length s) 0 (λ l. omega arith), e, eq-eqb n 0 z)
-
-  pub front-cut : length s < n → front s ≡ cut
-  unfolding front
-  front-cut h = rw (e, ne-eqb n 0 (λ z. omega arith), lt-leb n (length s) h) (same (eqb (length s) 0))
-
-  pub front-whole : 0 < n → n ≤ length s → front s ≡ whole n
-  unfolding front
-  front-whole h k = rw (ne-eqb (length s) 0 (λ l. omega arith), e, ne-eqb n 0 (λ z. omega arith), le-leb n (length s) k)
-
-pub front-end : (s : List ℕ) → length s ≤ 0 → front s ≡ cut
-unfolding front
-front-end [] h = refl
-front-end (k ∷ s) h = absurd (omega arith)
-
--- ---- the lines so far, and what is left to serve
+-- a whole record: its line, and then the pass over what is behind it
+goes-at : (x : Front) (room : ℕ) (b : Book) (s : List ℕ) (next : ℕ → Book → List ℕ → Serving) → 0 < journal.taken x →
+    servedAt x room b s next
+    ≡ behind (journal.taken x) (lineOf (replyTo b x)) (next (room - length (lineOf (replyTo b x))) (bookAfter b x) (drop (journal.taken x) s))
+goes-at (whole c n) room b s next h = refl
+goes-at cut room b s next h = absurd (omega arith)
+goes-at unknown room b s next h = absurd (omega arith)
 
 behind-nothing : (r : Serving) → r ≡ behind 0 [] r
 behind-nothing r = rw (zero-add (r .taken))
@@ -87,93 +47,109 @@ behind-nothing r = rw (zero-add (r .taken))
 behind-behind : (n m : ℕ) (s t : List ℕ) (r : Serving) → behind n s (behind m t r) ≡ behind (n + m) (s ++ t) r
 behind-behind n m s t r = rw (add-assoc n m (r .taken), append-assoc s t (r .text))
 
-pub record Progress (b : Book) (block : List ℕ) (a : Book) (taken : ℕ) (out : List ℕ) (written : ℕ) : Type 0 where
+-- ---- the loop's invariant
+
+pub record Progress (room : ℕ) (b : Book) (held : List ℕ) (a : Book) (taken : ℕ) (text : List ℕ) (written : ℕ) : Type 0 where
   pub most : ℕ
-  pub within : taken ≤ length block
-  pub enough : length block - taken ≤ most
-  pub fits : written ≤ 64 * taken
-  pub so-far : served b block ≡ behind taken (take written out) (servedFrom most a (drop taken block))
+  pub within : taken ≤ length held
+  pub enough : length held - taken ≤ most
+  pub fits : written ≤ room
+  pub same-length : length text ≡ room
+  pub so-far : served room b held ≡ behind taken (take written text) (servedFrom most (room - written) a (drop taken held))
 
-pub begins : (b : Book) (block out : List ℕ) → Progress b block b 0 out 0
+pub begins : (b : Book) (held text : List ℕ) → Progress (length text) b held b 0 text 0
 unfolding served
-begins b block out =
-    record { most = length block; within = omega arith; enough = omega arith; fits = omega arith; so-far = behind-nothing (servedFrom (length block) b block) }
+begins b held text =
+    let all : length text - 0 ≡ length text = omega arith in
+    record {
+      most = length held;
+      within = omega arith;
+      enough = omega arith;
+      fits = omega arith;
+      same-length = refl;
+      so-far = rw all (behind-nothing (servedFrom (length held) (length text) b held));
+    }
 
--- where nothing whole comes next
-stops : (most : ℕ) (b : Book) (s : List ℕ) → front s ≡ cut → servedFrom most b s ≡ stopping b false
-unfolding servedFrom
-stops zero b s e = refl
-stops (suc most) b s e = rw e
-
-breaks : (most : ℕ) (b : Book) (s : List ℕ) → 0 < most → front s ≡ unknown → servedFrom most b s ≡ stopping b true
-unfolding servedFrom
-breaks zero b s h e = absurd (omega arith)
-breaks (suc most) b s h e = rw e
-
-goes : (most : ℕ) (b : Book) (s : List ℕ) (n : ℕ) → 0 < most → front s ≡ whole n →
-    servedFrom most b s ≡ behind n (lineOf b (callOf (take n s))) (servedFrom (most - 1) (after b (callOf (take n s))) (drop n s))
-unfolding servedFrom
-goes zero b s n h e = absurd (omega arith)
-goes (suc most) b s n h e = let m : suc most - 1 ≡ most = omega arith in rw (e, m)
-
-module _ {b : Book} {block out : List ℕ} {taken written : ℕ} (a : DeclaredBook) (p : Progress b block (bookIn a) taken out written)
-    (n : ℕ) (l : n ≡ recordLength (getD block taken 0)) where
-  kind : recordLength (getD (drop taken block) 0 0) ≡ n
-  kind = rw (kind-at block taken) (sym l)
-
-  -- a whole record, and room for its line
-  pub answerable : 0 < n → taken + n ≤ length block → 64 * length block ≤ length out →
-      (0 < length (part block taken n)) × (recordLength (getD (part block taken n) 0 0) ≡ length (part block taken n)) × (written + 128 ≤ length out)
-  answerable h k r =
-      let q = part-record block taken n l h k in
-      (q .0, q .1, omega (arith, p .fits, record-bounds (getD block taken 0) n (sym l) h .0))
-
-  pub goes-on : {exit : List ℕ} {r : Answered} → 0 < n → taken + n ≤ length block →
-      Answers (bookIn a) (callOf (part block taken n)) out written exit r → Progress b block (bookIn (r .book)) (taken + n) exit (r .end)
-  goes-on {exit} {r} h k q =
-      let q = rw (part-is block taken n) at q in
-      let m = record-bounds (getD block taken 0) n (sym l) h .0 in
-      let f = front-whole (drop taken block) n kind h (omega (arith, length-drop taken block)) in
+module _ {room : ℕ} {b : Book} {held : List ℕ} {a : Book} {taken : ℕ} {text : List ℕ} {written : ℕ} (p : Progress room b held a taken text written) where
+  -- where no more is served
+  handed : (x : Bool) (d : DeclaredBook) (exit : List ℕ) → asBook d ≡ a → take written exit ≡ take written text →
+      servedFrom (p .most) (room - written) a (drop taken held) ≡ stopping a x →
+      Serves (served room b held) exit (record { book = d; taken = taken; written = written; unknown = x })
+  handed x d exit e t stopped =
+      let all = p .so-far ∙ ap (behind taken (take written text)) stopped in
+      let long = length-take-le written text (omega (arith, p .fits, p .same-length)) in
       record {
-        most = p .most - 1;
-        within = k;
-        enough = omega (arith, p .enough);
-        fits = omega (arith, p .fits, q .short);
-        so-far = rw (q .book, q .line .written, ← drop-drop n taken block) (p .so-far ∙ ap (behind taken (take written out)) (goes (p .most) (bookIn a) (drop taken block) n (omega (arith, p .enough)) f) ∙ behind-behind taken n (take written out) _ _);
+        book = e ∙ sym (ap (λ (r : Serving). r .book) all);
+        taken = sym (ap (λ (r : Serving). r .taken) all ∙ add-zero taken);
+        written = sym (ap (λ (r : Serving). length (r .text)) all ∙ ap length (append-nil (take written text)) ∙ long);
+        text-put = t ∙ sym (ap (λ (r : Serving). r .text) all ∙ append-nil (take written text));
+        unknown = sym (ap (λ (r : Serving). r .unknown) all);
       }
 
--- what is handed back where serving ends
-module _ {b : Book} {block out : List ℕ} {taken written : ℕ} (a : DeclaredBook) (p : Progress b block (bookIn a) taken out written) (room : 64 * length block ≤ length out) where
-  abbrev handed : Bool → Served
-  handed x = record { book = a; taken = taken; written = written; broken = x }
+  pub ends-full : (d : DeclaredBook) → asBook d ≡ a → room - written < lineRoom →
+      Serves (served room b held) text (record { book = d; taken = taken; written = written; unknown = false })
+  ends-full d e h = handed false d text e refl (full (p .most) (room - written) a (drop taken held) h)
 
-  ended : (x : Bool) → servedFrom (p .most) (bookIn a) (drop taken block) ≡ stopping (bookIn a) x → (x ≡ false → length block - taken < 110) → Serves b block out (handed x)
-  ended x e c =
-      let s = p .so-far ∙ ap (behind taken (take written out)) e in
-      record {
-        book = sym (ap (λ (r : Serving). r .book) s);
-        taken = sym (ap (λ (r : Serving). r .taken) s ∙ add-zero taken);
-        text = sym (ap (λ (r : Serving). r .text) s ∙ append-nil (take written out));
-        broken = sym (ap (λ (r : Serving). r .broken) s);
-        within = p .within;
-        fits = omega (arith, p .fits, p .within);
-        cut = c;
-      }
+  module _ {exit : List ℕ} {r : Answered} (q : Answers a (drop taken held) text written exit r) (k : lineRoom ≤ room - written) where
+    abbrev next : Front
+    next = front framed (drop taken held)
 
-  pub ends-broken : (n : ℕ) → n ≡ recordLength (getD block taken 0) → taken < length block → n ≡ 0 → Serves b block out (handed true)
-  ends-broken n l h z =
-      let f = front-unknown (drop taken block) n (kind a p n l) (omega (arith, length-drop taken block)) z in
-      ended true (breaks (p .most) (bookIn a) (drop taken block) (omega (arith, p .enough)) f) (λ e. absurd (never e))
-    where
-      never : true ≡ false → ⊥
-      never z = let o : _≡_ {A = ℕ} 0 1 = cc in omega arith
+    step : servedFrom (p .most) (room - written) a (drop taken held) ≡ servedAt next (room - written) a (drop taken held) (servedFrom (p .most - 1))
+    step = roomy (p .most) (room - written) a (drop taken held) (omega (arith, p .enough, length-drop taken held)) k
 
-  pub ends-cut : (n : ℕ) → n ≡ recordLength (getD block taken 0) → length block - taken < n → Serves b block out (handed false)
-  ends-cut n l h =
-      let f = front-cut (drop taken block) n (kind a p n l) (omega (arith, length-drop taken block)) in
-      ended false (stops (p .most) (bookIn a) (drop taken block) f) (λ e. omega (arith, record-bounds (getD block taken 0) n (sym l) (omega arith) .1))
+    pub ends-here : (d : DeclaredBook) → asBook d ≡ a → r .taken ≡ 0 →
+        Serves (served room b held) exit (record { book = d; taken = taken; written = written; unknown = r .unknown })
+    ends-here d e z =
+        let stop = stops-at next (room - written) a (drop taken held) (servedFrom (p .most - 1)) refl (sym (q .taken) ∙ z) in
+        let put = rw (stop .1) at (q .line) in
+        handed (r .unknown) d exit e
+        (ap (λ (n : ℕ). take n exit) (sym (put .ends ∙ add-zero written)) ∙ put .written ∙ append-nil (take written text))
+        (step ∙ stop .0 ∙ ap (stopping a) (sym (q .unknown)))
 
-  pub ends-whole : length block ≤ taken → Serves b block out (handed false)
-  ends-whole h =
-      let f = front-end (drop taken block) (omega (arith, length-drop taken block)) in
-      ended false (stops (p .most) (bookIn a) (drop taken block) f) (λ e. omega arith)
+    pub goes-on : length exit ≡ room → 0 < r .taken → Progress room b held (asBook (r .book)) (taken + r .taken) exit (r .end)
+    goes-on l h =
+        let line = lineOf (replyTo a next) in
+        let inside = taken-within framed (drop taken held) in
+        let room-left : room - r .end ≡ room - written - length line = omega (arith, q .line .ends) in
+        let walked = goes-at next (room - written) a (drop taken held) (servedFrom (p .most - 1)) (omega (arith, q .taken)) in
+        record {
+          most = p .most - 1;
+          within = omega (arith, p .within, q .taken, inside, length-drop taken held);
+          enough = omega (arith, p .enough);
+          fits = omega (arith, q .line .ends, reply-short (replyTo a next));
+          same-length = l;
+          so-far =
+              rw (room-left, q .book, q .line .written, q .taken, ← drop-drop (journal.taken next) taken held)
+              (p .so-far ∙ ap (behind taken (take written text)) (step ∙ walked) ∙ behind-behind taken (journal.taken next) (take written text) line _);
+        }
+
+-- nothing taken and no unknown kind next: what is held is cut, so shorter than a record
+pub waits : (room : ℕ) (b : Book) (held : List ℕ) {text : List ℕ} {r : Served} → Serves (served room b held) text r →
+    getD held 1 0 < 256 → getD held 2 0 < 256 → Waits room held (r .taken) (r .unknown)
+waits room b held s h k roomy z x = cut-short framed held h k (takes-nothing room b held roomy (sym (s .taken) ∙ z) (sym (s .unknown) ∙ x))
+
+-- ---- the desk after a pass
+
+-- what was served, with the bytes behind it moved to the front of the block
+pub passes : (room : ℕ) (d : DeclaredDesk) (entry : List ℕ) {block text : List ℕ} {s : Served} {offset held : ℕ} → d .held ≤ length entry →
+    Serves (served room (asBook (d .book)) (take (d .held) entry)) text s → offset ≡ (d .offset + s .taken) % 2 ^ 64 →
+    (held ≡ d .held - s .taken) × (take held block ≡ drop (s .taken) (take (d .held) entry)) →
+    Passes room (asDesk d entry) block text
+    (record { desk = record { book = s .book; offset = offset; held = held }; taken = s .taken; written = s .written; unknown = s .unknown })
+passes room d entry h s o m =
+    let bytes = take (d .held) entry in
+    let taken = served room (asBook (d .book)) bytes .taken in
+    record {
+      book = s .book;
+      offset = o ∙ ap (λ (n : ℕ). (d .offset + n) % 2 ^ 64) (s .taken);
+      held = m .1 ∙ ap (λ (n : ℕ). drop n bytes) (s .taken);
+      count = omega (arith, m .0, s .taken, length-drop taken bytes, length-take-le (d .held) entry h);
+      taken = s .taken;
+      written = s .written;
+      text-put = s .text-put;
+      unknown = s .unknown;
+    }
+
+-- no more is held than before
+pub left-within : {room : ℕ} {d : Desk} {block text : List ℕ} {r : Passed} → Passes room d block text r → r .desk .held ≤ length (d .held)
+left-within {room} {d} p = omega (arith, p .count, length-drop (pass room d .taken) (d .held))

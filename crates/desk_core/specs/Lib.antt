@@ -1,3 +1,3 @@
 pub mod Lines
 pub mod Desk
-pub mod Put
+pub mod Handed

@@ -3,10 +3,9 @@ use mathlib.Core.Bool.{cond}
 use mathlib.Core.List.{List, [], _∷_, _++_}
 use Prim.Native.Nat.{ℕ, zero, suc, _+_, _/_, _%_}
 use lib.Dec.{ltb}
-use Rattle.ledger.specs.Answers.{PostAnswer, Accepted, TurnedDown, TurnAnswer, Told, MonthAboveLast, MonthBeforeTold, LookAnswer, Found, YearOutside, NoCurve}
-use Rattle.ledger.specs.Book.{Book, post, turn, lookUp}
-use Rattle.ledger.specs.Calls.{Call, postOf, turnTo, lookAt, pageInto}
-use Rattle.method.specs.Grounds.{numberOf, placeOf}
+use Rattle.method.specs.Grounds.{Outcome, refused, done, _>>=_}
+use Rattle.ledger.specs.Answers.{answerNumber, answerPlace}
+use Rattle.journal.specs.Replies.{Reply, posted, turned, looked, cutShort, notKnown}
 
 abbrev pub digit : ℕ → ℕ
 digit d = 0x30 + d
@@ -25,38 +24,28 @@ abbrev pub spaced : List ℕ → List ℕ
 spaced [] = []
 spaced (n ∷ ns) = 0x20 ∷ decimal n ++ spaced ns
 
--- each line closes with hex 0A
+-- a letter, the numbers, hex 0A
 abbrev pub line : ℕ → List ℕ → List ℕ
 line letter numbers = letter ∷ spaced numbers ++ (0x0A ∷ [])
 
--- "R number place"
-abbrev pub refusal : ℕ → ℕ → List ℕ
-refusal number place = line 0x52 (number ∷ place ∷ [])
+-- ---- the line of a reply
 
--- "P month"
-abbrev pub postLine : PostAnswer → List ℕ
-postLine (Accepted m) = line 0x50 (m ∷ [])
-postLine (TurnedDown g) = refusal (numberOf g) (placeOf g)
+abbrev pub numberAndPlace : {A : Type 0} → Outcome A → List ℕ
+numberAndPlace o = answerNumber o ∷ answerPlace o ∷ []
 
--- "M month"
-abbrev pub turnLine : TurnAnswer → List ℕ
-turnLine (Told m) = line 0x4D (m ∷ [])
-turnLine MonthAboveLast = refusal 11 0
-turnLine MonthBeforeTold = refusal 12 0
+-- a letter and the numbers that the call answers, or "R number place"
+abbrev pub answerLine : ℕ → Outcome (List ℕ) → List ℕ
+answerLine letter (done numbers) = line letter numbers
+answerLine letter (refused g) = line 0x52 (numberAndPlace {A = List ℕ} (refused g))
 
--- "L year low high month age"
-abbrev pub lookLine : ℕ → LookAnswer → List ℕ
-lookLine year (Found low high month age) = line 0x4C (year ∷ low ∷ high ∷ month ∷ age ∷ [])
-lookLine year YearOutside = refusal 13 0
-lookLine year NoCurve = refusal 14 0
+-- "P month", "M month", "L year low high month age"; none where there was no call
+abbrev pub lineOf : Reply → List ℕ
+lineOf (posted o) = answerLine 0x50 (o >>= λ month. done (month ∷ []))
+lineOf (turned o) = answerLine 0x4D (o >>= λ month. done (month ∷ []))
+lineOf (looked year o) = answerLine 0x4C (o >>= λ f. done (year ∷ f .low ∷ f .high ∷ f .month ∷ f .age ∷ []))
+lineOf cutShort = []
+lineOf notKnown = []
 
--- "X offset"
+-- where the input stops being records: "X offset"
 abbrev pub brokenLine : ℕ → List ℕ
 brokenLine offset = line 0x58 (offset ∷ [])
-
--- the line of a call on a book; the desk takes no pages
-abbrev pub lineOf : Book → Call → List ℕ
-lineOf b (postOf s) = postLine (post b s .answer)
-lineOf b (turnTo m) = turnLine (turn b m .answer)
-lineOf b (lookAt y) = lookLine y (lookUp b y)
-lineOf b (pageInto l) = []

@@ -1,157 +1,123 @@
-// The desk: records in, a line for each out, in blocks of constant size.
+// The desk: records in, a line for each out, through a block and a text of constant size.
 mod lines;
 
 use book::Book;
+use journal::Reply;
 use lines::put_line;
-use lines::put_look;
-use lines::put_post;
-use lines::put_turn;
-use replay::number;
+use lines::put_reply;
 ghost use mathlib.Core.Path.{_≡_};
-ghost use Prim.Native.Nat.{_+_, _*_, _-_, _≤_, _<_};
-ghost use lib.ListN.{length, getD, take, drop};
-ghost use Rattle.ledger.specs.Calls.{postOf, turnTo, lookAt};
-ghost use Rattle.ledger.specs.Demands.{read2};
-ghost use Rattle.book.specs.Answers.{bookIn};
-ghost use Rattle.desk_core.specs.Desk.{recordLength, callOf};
-ghost use Rattle.desk_core.specs.Put.{Answers, Serves, Moved};
+ghost use Prim.Native.Nat.{_+_, _-_, _≤_, _<_};
+ghost use lib.ListN.{length, take, drop};
+ghost use Rattle.book.specs.Views.{asBook};
+ghost use Rattle.desk_core.specs.Lines.{brokenLine};
+ghost use Rattle.desk_core.specs.Desk.{lineRoom, served};
+ghost use Rattle.desk_core.specs.Handed.{isNotKnown, Answers, Serves, Waits, asDesk, Opens, Passes, Reads};
 
-// The book after a record, and where its line ends.
-struct Answered {
+// No length stands before a sheet.
+const FRAMED: bool = false;
+
+// Any line's room.
+const LINE_ROOM: usize = 128;
+
+// Between two passes: the book, how many bytes of the block are held, and the offset of the first of them.
+struct Desk {
     book: Book,
-    end: usize,
+    offset: u64,
+    held: usize,
 }
 
-// The book after the whole records at the front of a block, how many bytes they took and how many their lines have; whether
-// an unknown kind comes next.
+// The book after the record at the front of some bytes, the bytes that it takes and where its line ends; whether its kind is unknown.
+struct Answered {
+    book: Book,
+    taken: usize,
+    end: usize,
+    unknown: bool,
+}
+
+// The book after the whole records at the front of the bytes held, how many bytes they take and how many their lines have; whether
+// an unknown kind is next.
 struct Served {
     book: Book,
     taken: usize,
     written: usize,
-    broken: bool,
+    unknown: bool,
 }
 
-// A record's length with its kind byte; 0 where the kind is unknown.
-fn record_length(kind: u8) -> usize
-    ensures { λ r. ⌜ r ≡ recordLength kind ⌝ }
-{
-    if kind == 0x50 {
-        return 110;
-    }
-    if kind == 0x4D {
-        return 3;
-    }
-    if kind == 0x4C {
-        return 2;
-    }
-    0
+// The desk after a pass, and the rest of what it served.
+struct Passed {
+    desk: Desk,
+    taken: usize,
+    written: usize,
+    unknown: bool,
 }
 
-fn answer_post(book: Book, rec: &[u8], out: &mut [u8], at: usize) -> Answered
-    requires { ⌜ (1 ≤ length (now rec)) × (at + 128 ≤ length (now out)) ⌝ }
-    ensures { λ r. ⌜ Answers (bookIn book) (postOf (drop 1 (now (rec .entry)))) (now (out .entry)) at (now (out .exit)) r ⌝ }
+fn not_known(reply: Reply) -> bool
+    ensures { λ r. ⌜ r ≡ isNotKnown reply ⌝ }
 {
-    let posted = book::post(book, &rec[1..]);
-    let after = posted.book;
-    let answer = posted.answer;
+    match reply {
+        Reply::Posted => false,
+        Reply::Turned => false,
+        Reply::Looked(_) => false,
+        Reply::CutShort => false,
+        Reply::NotKnown => true,
+    }
+}
+
+// Makes the call at the front of the bytes and puts its line. Where no whole record stands there, nothing is made or put.
+fn answer(book: Book, rest: &[u8], text: &mut [u8], at: usize) -> Answered
+    requires { ⌜ at + lineRoom ≤ length (now text) ⌝ }
+    ensures { λ r. ⌜ Answers (asBook book) (now (rest .entry)) (now (text .entry)) at (now (text .exit)) r ⌝ }
+{
+    let made = journal::make(book, rest, FRAMED);
+    let reply = made.reply;
+    let verdict = made.verdict;
+    let found = made.finding;
+    let after = made.book;
     Answered {
         book: after,
-        end: put_post(answer, out, at),
+        taken: made.taken,
+        end: put_reply(reply, verdict, made.month, found, text, at),
+        unknown: not_known(reply),
     }
 }
 
-fn answer_turn(book: Book, rec: &[u8], out: &mut [u8], at: usize) -> Answered
-    requires { ⌜ (3 ≤ length (now rec)) × (at + 128 ≤ length (now out)) ⌝ }
-    ensures { λ r. ⌜ Answers (bookIn book) (turnTo (read2 (now (rec .entry)) 1)) (now (out .entry)) at (now (out .exit)) r ⌝ }
-{
-    let turned = book::turn(book, number(rec[1], rec[2]));
-    let after = turned.book;
-    let answer = turned.answer;
-    Answered {
-        book: after,
-        end: put_turn(answer, out, at),
-    }
-}
-
-fn wide(byte: u8) -> u64
-    ensures { λ r. ⌜ r ≡ byte ⌝ }
-{
-    byte as u64
-}
-
-fn answer_look(book: Book, rec: &[u8], out: &mut [u8], at: usize) -> Answered
-    requires { ⌜ (2 ≤ length (now rec)) × (at + 128 ≤ length (now out)) ⌝ }
-    ensures { λ r. ⌜ Answers (bookIn book) (lookAt (getD (now (rec .entry)) 1 0)) (now (out .entry)) at (now (out .exit)) r ⌝ }
-{
-    let year = wide(rec[1]);
-    let answer = book::look_up(book, year);
-    Answered {
-        book: book,
-        end: put_look(year, answer, out, at),
-    }
-}
-
-// Makes the call of a whole record and puts its line.
-fn answer(book: Book, rec: &[u8], out: &mut [u8], at: usize) -> Answered
-    requires { ⌜ (0 < length (now rec)) × (recordLength (getD (now rec) 0 0) ≡ length (now rec)) × (at + 128 ≤ length (now out)) ⌝ }
-    ensures { λ r. ⌜ Answers (bookIn book) (callOf (now (rec .entry))) (now (out .entry)) at (now (out .exit)) r ⌝ }
-{
-    let kind = rec[0];
-    if kind == 0x50 {
-        return answer_post(book, rec, out, at);
-    }
-    if kind == 0x4D {
-        return answer_turn(book, rec, out, at);
-    }
-    answer_look(book, rec, out, at)
-}
-
-// Answers the whole records at the front of a block. A record has two bytes or more, and its line at most 128.
-fn serve_block(book: Book, block: &[u8], out: &mut [u8]) -> Served
-    requires { ⌜ 64 * length (now block) ≤ length (now out) ⌝ }
-    ensures { λ r. ⌜ Serves (bookIn book) (now (block .entry)) (now (out .exit)) r ⌝ }
+// Answers the whole records at the front of what is held, while the text has room for one line more.
+fn serve_held(book: Book, held: &[u8], text: &mut [u8]) -> Served
+    ensures pass { λ r. ⌜ Serves (served (length (now (text .entry))) (asBook book) (now (held .entry))) (now (text .exit)) r ⌝ }
+    ensures waits { λ r. ⌜ Waits (length (now (text .entry))) (now (held .entry)) (r .taken) (r .unknown) ⌝ }
 {
     let mut after = book;
     let mut taken: usize = 0;
     let mut written: usize = 0;
-    while taken < block.len() {
-        let n = record_length(block[taken]);
+    while LINE_ROOM <= text.len() - written {
+        let answered = answer(after, &held[taken..], text, written);
+        let n = answered.taken;
         if n == 0 {
             return Served {
                 book: after,
                 taken: taken,
                 written: written,
-                broken: true,
+                unknown: answered.unknown,
             };
         }
-        if block.len() - taken < n {
-            return Served {
-                book: after,
-                taken: taken,
-                written: written,
-                broken: false,
-            };
-        }
-        let end = taken + n;
-        let answered = answer(after, &block[taken..end], out, written);
         after = answered.book;
         written = answered.end;
-        taken = end;
+        taken += n;
     }
     Served {
         book: after,
         taken: taken,
         written: written,
-        broken: false,
+        unknown: false,
     }
 }
 
-// ---- reading and writing
+// ---- a pass
 
-// Moves the bytes of `from` to `to` to the front, and says how many they are.
+// Moves the bytes from `from` to `to` to the front, and says how many they are.
 fn move_down(bytes: &mut [u8], from: usize, to: usize) -> usize
     requires { ⌜ (from ≤ to) × (to ≤ length (now bytes)) ⌝ }
-    ensures { λ r. ⌜ Moved (now (bytes .entry)) from to (now (bytes .exit)) r ⌝ }
+    ensures { λ r. ⌜ (r ≡ to - from) × (take r (now (bytes .exit)) ≡ drop from (take to (now (bytes .entry)))) ⌝ }
 {
     let mut i: usize = 0;
     while i < to - from {
@@ -161,54 +127,92 @@ fn move_down(bytes: &mut [u8], from: usize, to: usize) -> usize
     i
 }
 
-// One read behind the bytes that are held; 0 at the end of the input, and where a read fails.
-fn read_more(fd: i32, block: &mut [u8], held: usize) -> usize
-    requires { ⌜ held ≤ length (now block) ⌝ }
-    ensures { λ r. ⌜ (held + r ≤ length (now (block .entry))) × (take held (now (block .exit)) ≡ take held (now (block .entry))) ⌝ }
+fn opened() -> Desk
+    ensures { λ r. ⌜ Opens r ⌝ }
 {
-    let room = &mut block[held..];
-    let got = libc::read(fd, room);
-    io::count(got, room)
+    Desk {
+        book: book::fresh(),
+        offset: 0,
+        held: 0,
+    }
 }
 
-fn write_broken(fd: i32, offset: u64, text: &mut [u8])
-    requires { ⌜ 64 ≤ length (now text) ⌝ }
+// Serves what is held, and holds what is left of it.
+fn pass(desk: Desk, block: &mut [u8], text: &mut [u8]) -> Passed
+    requires { ⌜ desk .held ≤ length (now block) ⌝ }
+    ensures pass { λ r. ⌜ Passes (length (now (text .entry))) (asDesk desk (now (block .entry))) (now (block .exit)) (now (text .exit)) r ⌝ }
+    ensures waits { λ r. ⌜ Waits (length (now (text .entry))) (take (desk .held) (now (block .entry))) (r .taken) (r .unknown) ⌝ }
+{
+    let held = desk.held;
+    let served = serve_held(desk.book, &block[..held], text);
+    let taken = served.taken;
+    let after = served.book;
+    Passed {
+        desk: Desk {
+            book: after,
+            offset: std::num::wrapping_add_u64(desk.offset, taken as u64),
+            held: move_down(block, taken, held),
+        },
+        taken: taken,
+        written: served.written,
+        unknown: served.unknown,
+    }
+}
+
+// ---- reading and writing
+
+// One read behind the bytes that are held, where there is room: so nothing more is held only at the end of the input, or where a
+// read fails.
+fn read_more(input: i32, desk: Desk, block: &mut [u8]) -> Desk
+    requires { ⌜ desk .held < length (now block) ⌝ }
+    ensures { λ r. ⌜ Reads desk (now (block .entry)) (now (block .exit)) r ⌝ }
+{
+    let held = desk.held;
+    let room = &mut block[held..];
+    let got = libc::read(input, room);
+    let mut next = desk;
+    next.held = held + io::count(got, room);
+    next
+}
+
+fn write_broken(output: i32, offset: u64, text: &mut [u8])
+    requires { ⌜ lineRoom ≤ length (now text) ⌝ }
+    ensures { λ _. ⌜ take (length (brokenLine offset)) (now (text .exit)) ≡ brokenLine offset ⌝ }
 {
     let end = put_line(b'X', &[offset], text, 0);
-    io::write_all(fd, &text[..end]);
+    io::write_all(output, &text[..end]);
 }
 
-// Reads to the end of the input, or to what is no record. A proved loop has to end, and nothing says that the input does: so
-// the turns are counted down, from a number that no run uses up.
+// Serves the input to its end, or to an unknown kind, as `printedIn` says. A proved loop has to end, and nothing says that the input
+// does: so the passes are counted down, from a number that no run uses up.
 pub fn serve(input: i32, output: i32) {
-    let mut book = book::fresh();
     let mut block_space = [0u8; 4096];
     let block: &mut [u8] = &mut block_space;
-    let mut text_space = [0u8; 262_144];
+    let mut text_space = [0u8; 4096];
     let text: &mut [u8] = &mut text_space;
-    let mut offset: u64 = 0;
-    let mut held: usize = 0;
-    let mut turns = u64::MAX;
-    while 0 < turns {
-        turns -= 1;
-        let got = read_more(input, block, held);
-        let filled = held + got;
-        let served = serve_block(book, &block[..filled], text);
-        book = served.book;
-        let written = served.written;
+    let mut desk = opened();
+    let mut passes = u64::MAX;
+    while 0 < passes {
+        passes -= 1;
+        let passed = pass(desk, block, text);
+        let written = passed.written;
         io::write_all(output, &text[..written]);
-        let taken = served.taken;
-        offset = std::num::wrapping_add_u64(offset, taken as u64);
-        if served.broken {
+        let left = passed.desk;
+        let offset = left.offset;
+        let held = left.held;
+        desk = left;
+        if passed.unknown {
             write_broken(output, offset, text);
             return;
         }
-        held = move_down(block, taken, filled);
-        if got == 0 {
-            if 0 < held {
-                write_broken(output, offset, text);
+        if passed.taken == 0 {
+            desk = read_more(input, left, block);
+            if desk.held == held {
+                if 0 < held {
+                    write_broken(output, offset, text);
+                }
+                return;
             }
-            return;
         }
     }
 }

@@ -1,5 +1,5 @@
--- `move_down` meets its contract. The loop's invariant: the first bytes are in place, those not yet read are as they were.
-use Prim.Native.Nat.{_-_}
+-- The loop's invariant: the first i bytes are in place, those not yet read are as they were.
+use Prim.Native.Nat.{_-_, _≤_}
 use native.Mathlib.Omega.{arith}
 use borrow.Author.Needs.{needs}
 use Rattle.desk_core.proofs.Moving.{Moving, begins, goes-on, ends}
@@ -7,13 +7,13 @@ use Rattle.desk_core.proofs.move_down.Statement.{statement}
 use Rattle.desk_core.proofs.move_down.Tie as tie
 
 abbrev Inv-loop : tie.InvT-loop
-Inv-loop bytes₀ from to i₀ bytes i = Moving bytes₀ from to bytes i
+Inv-loop bytes₀ from to i₀ bytes i = (i ≤ to - from) × Moving bytes₀ from i bytes
 
 abbrev μ-loop : tie.MeasureT-loop
 μ-loop bytes₀ from to i₀ bytes i = to - from - i
 
 loop-holds : tie.Need-loop-holds Inv-loop μ-loop
-loop-holds c = begins _ _ _
+loop-holds c = (omega arith, begins _ _)
 
 sub-loop : tie.Need-sub-loop Inv-loop μ-loop
 sub-loop c = search needs
@@ -34,13 +34,15 @@ loop-less : tie.Need-loop-less Inv-loop μ-loop
 loop-less c = search needs
 
 loop-again : tie.Need-loop-again Inv-loop μ-loop
-loop-again c = goes-on (c .before .before .loop .inv) (omega arith) (c .before .loop-test .taken)
+loop-again c = (omega arith, goes-on (c .before .before .loop .inv .1) (omega arith))
 
 same-length : tie.Need-same-length Inv-loop μ-loop
-same-length c = c .before .loop .inv .same-length
+same-length c = c .before .loop .inv .1 .same-length
 
 returns : tie.Need-returns Inv-loop μ-loop
-returns c = ends (c .before .loop .inv) (c .loop-test .left)
+returns c =
+    let at-loop = c .before in
+    (omega arith, ends (at-loop .loop .inv .1) (at-loop .before .args .to) (omega arith) (omega arith))
 
 pub move-down-spec : {M : Type 1} → statement M
 move-down-spec =

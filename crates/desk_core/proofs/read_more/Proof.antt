@@ -1,9 +1,17 @@
--- `read_more` meets its contract: what is held stands before the part that is read into.
+-- What is held stands before the part that is read into.
+use mathlib.Core.List.{List, []}
+use mathlib.Core.Path.{ap}
+use Prim.Native.Nat.{ℕ}
 use native.Mathlib.Omega.{arith}
 use borrow.Author.Needs.{needs}
-use Rattle.desk_core.proofs.Moving.{kept}
+use Rattle.desk_core.specs.Desk.{Desk}
+use Rattle.desk_core.specs.Handed.{asDesk}
+use Rattle.desk_core.proofs.Moving.{read-behind}
 use Rattle.desk_core.proofs.read_more.Statement.{statement}
 use Rattle.desk_core.proofs.read_more.Tie as tie
+
+abbrev withHeld : Desk → List ℕ → Desk
+withHeld d l = record { book = d .book; offset = d .offset; held = l }
 
 sub-room : tie.Need-sub-room
 sub-room c = search needs
@@ -20,11 +28,25 @@ read-requires c κs = search needs
 count-requires : tie.Need-count-requires
 count-requires c κs = search needs
 
+add-next : tie.Need-add-next
+add-next c = search needs
+
 same-length : tie.Need-same-length
 same-length c = search needs
 
 returns : tie.Need-returns
-returns c = (omega (arith, c .before .before .count .ensures .0 .0), kept _ _ _ (c .before .before .before .before .before .before .before .before .before .before .pre))
+returns c =
+    let at-count = c .before .before in
+    let lent = at-count .before .before in
+    let at-read = lent .before .before in
+    let part = at-read .before .before in
+    let start = part .before .before in
+    record {
+      more = omega arith;
+      within = omega (arith, at-count .count .ensures, start);
+      behind =
+          ap (λ (l : List ℕ). withHeld (asDesk (start .args .desk) []) l) (read-behind _ _ _ _ (start .pre));
+    }
 
 pub read-more-spec : {M : Type 1} → statement M
 read-more-spec =
@@ -35,5 +57,6 @@ read-more-spec =
     part-room-end
     read-requires
     count-requires
+    add-next
     same-length
     returns)

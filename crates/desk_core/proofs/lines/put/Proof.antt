@@ -1,4 +1,4 @@
--- `put` meets its contract: the copy goes into the part behind what is written.
+-- The copy goes into the part of the text behind what is written.
 use native.Mathlib.Omega.{arith}
 use borrow.Author.Needs.{needs}
 use Rattle.desk_core.proofs.Putting.{put-back}
@@ -24,7 +24,9 @@ same-length : tie.Need-same-length
 same-length c = search needs
 
 returns : tie.Need-returns
-returns c = rw (c .before .before .copy .ensures .0) (put-back _ _ _ _ (omega arith) (c .before .before .copy .ensures .1))
+returns c =
+    let copied = c .before .before .copy .ensures in
+    rw (copied .0) (put-back _ _ _ _ (omega arith) (copied .1))
 
 pub put-spec : {M : Type 1} → statement M
 put-spec =
