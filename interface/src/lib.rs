@@ -16,6 +16,12 @@ extern "C" {
         out: *mut c_uchar,
         out_len: usize,
     ) -> u64;
+    fn tuyqorem_answer_after(
+        calls: *const c_uchar,
+        calls_len: usize,
+        call: *const c_uchar,
+        call_len: usize,
+    ) -> u64;
 }
 
 /// The number of the ground, or 0.
@@ -36,4 +42,10 @@ pub fn look_after(calls: &[u8], year: u64, out: &mut [u8]) -> u64 {
 pub fn page_after(calls: &[u8], out: &mut [u8]) -> u64 {
     // SAFETY: both slices are valid for their lengths, and a `&mut` overlaps nothing.
     unsafe { tuyqorem_page_after(calls.as_ptr(), calls.len(), out.as_mut_ptr(), out.len()) }
+}
+
+/// Number + 256 × place of the ground, or 0; 255 where `call` starts with no whole record.
+pub fn answer_after(calls: &[u8], call: &[u8]) -> u64 {
+    // SAFETY: both slices are valid for their lengths, and neither is written.
+    unsafe { tuyqorem_answer_after(calls.as_ptr(), calls.len(), call.as_ptr(), call.len()) }
 }

@@ -6,9 +6,9 @@ use crate::book::Book;
 use crate::refusal::Refusal;
 use crate::sheet::SHEET_LENGTH;
 
-const POST: u8 = 0x50;
-const TURN: u8 = 0x4D;
-const LOOK_UP: u8 = 0x4C;
+pub const POST: u8 = 0x50;
+pub const TURN: u8 = 0x4D;
+pub const LOOK_UP: u8 = 0x4C;
 
 /// How the stream tells the length of a posted sheet.
 #[derive(Clone, Copy, Debug, PartialEq, Eq)]
@@ -96,16 +96,20 @@ impl<R: Read> CallReader<R> {
     }
 }
 
-/// Makes the call on the book; the line that tells its result.
-pub fn answer(book: &mut Book, call: &Call) -> String {
-    let line = match call {
+/// Makes the call on the book; the line that tells its result, or why it is refused.
+pub fn make(book: &mut Book, call: &Call) -> Result<String, Refusal> {
+    match call {
         Call::Post(sheet) => book.post(sheet).map(|month| format!("P {month}")),
         Call::Turn(month) => book
             .turn(u32::from(*month))
             .map(|month| format!("M {month}")),
         Call::LookUp(year) => look_up_line(book, *year),
-    };
-    line.unwrap_or_else(|refusal| refusal.to_string())
+    }
+}
+
+/// Makes the call on the book; the line that answers it, refused or not.
+pub fn answer(book: &mut Book, call: &Call) -> String {
+    make(book, call).unwrap_or_else(|refusal| refusal.to_string())
 }
 
 fn look_up_line(book: &Book, year: u8) -> Result<String, Refusal> {

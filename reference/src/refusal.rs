@@ -20,7 +20,36 @@ impl Refusal {
     pub fn plain(number: u8) -> Self {
         Refusal { number, place: 0 }
     }
+
+    /// Number and place in one: number + 256 × place.
+    pub fn code(self) -> u64 {
+        u64::from(self.number) + 256 * u64::from(self.place)
+    }
+
+    /// The ground in words.
+    pub fn reason(self) -> &'static str {
+        REASONS[usize::from(self.number) - 1]
+    }
 }
+
+/// The grounds in words, that of number n at index n - 1.
+const REASONS: [&str; 15] = [
+    "the sheet's length is not 109",
+    "a record's kind or maturity is not the one due",
+    "a number is outside its range",
+    "no volume is above 0",
+    "the sheet's month is after the told month",
+    "the sheet's month is before the standing curve's",
+    "a low of years 1 to 50 is below 1",
+    "a high is above 2,000,000,000",
+    "an end of the halving fails its test",
+    "high less low is above the sheet's limit",
+    "the month is above 2,399",
+    "the month is before the told month",
+    "the year is not 1 to 150",
+    "the book has no curve",
+    "the buffer has fewer than 1,505 bytes",
+];
 
 impl fmt::Display for Refusal {
     fn fmt(&self, f: &mut fmt::Formatter<'_>) -> fmt::Result {

@@ -4,8 +4,7 @@
 use std::time::{Duration, Instant};
 
 use interface::page_after;
-use reference::book::Book;
-use reference::desk::{answer, CallReader, Next, SheetFraming};
+use reference::journal::{book_after, look_up, post, turn};
 use reference::streams::{sheet, sheet_bytes, worked, Random};
 
 /// The fastest of these runs counts, as the least disturbed one.
@@ -24,7 +23,7 @@ fn main() {
         assert_eq!(page_after(&journal, &mut page), 0);
         proved = proved.min(start.elapsed());
         let start = Instant::now();
-        assert!(replayed(&journal).page(&mut expected).is_ok());
+        assert!(book_after(&journal).page(&mut expected).is_ok());
         plain = plain.min(start.elapsed());
         assert_eq!(page, expected);
     }
@@ -42,26 +41,16 @@ fn main() {
 /// Accepted sheets of one month, and a look-up after each.
 fn journal(posts: usize) -> Vec<u8> {
     let mut random = Random::new(7);
-    let mut journal = vec![0x4D, 0, 1];
+    let mut journal = turn(1);
     let mut done = 0;
     while done < posts {
         let mut sheet = sheet(&mut random, 1);
         sheet.limit = 100_000;
         if worked(&sheet).is_some() {
-            journal.extend([0x50, 0, 109]);
-            journal.extend(sheet_bytes(&sheet));
-            journal.extend([0x4C, 1 + random.below(150) as u8]);
+            journal.extend(post(&sheet_bytes(&sheet)));
+            journal.extend(look_up(1 + random.below(150) as u8));
             done += 1;
         }
     }
     journal
-}
-
-fn replayed(journal: &[u8]) -> Book {
-    let mut book = Book::new();
-    let mut calls = CallReader::new(journal, SheetFraming::LengthPrefixed);
-    while let Ok(Next::Call(call)) = calls.next_call() {
-        answer(&mut book, &call);
-    }
-    book
 }

@@ -3,6 +3,8 @@
 
 use std::io::Write;
 
+use reference::desk::POST;
+use reference::journal::{self, look_up, turn};
 use reference::sheet::Sheet;
 use reference::streams::sheet_bytes;
 
@@ -14,12 +16,14 @@ const OCTOBER: u16 = SEPTEMBER + 1;
 const QUOTE_12: usize = 10;
 
 fn main() -> std::io::Result<()> {
-    let journal = std::env::args().nth(1).as_deref() == Some("journal");
+    let as_journal = std::env::args().nth(1).as_deref() == Some("journal");
     let post = |sheet: &Sheet| {
         let bytes = sheet_bytes(sheet);
-        let length = (bytes.len() as u16).to_be_bytes();
-        let framing: &[u8] = if journal { &length } else { &[] };
-        [&[0x50], framing, &bytes].concat()
+        if as_journal {
+            journal::post(&bytes)
+        } else {
+            [&[POST], &bytes[..]].concat()
+        }
     };
     let september = sheet(SEPTEMBER, 0);
     let october = sheet(OCTOBER, 12);
@@ -42,14 +46,6 @@ fn main() -> std::io::Result<()> {
         look_up(151),
     ];
     std::io::stdout().write_all(&calls.concat())
-}
-
-fn turn(month: u16) -> Vec<u8> {
-    [&[0x4D], &month.to_be_bytes()[..]].concat()
-}
-
-fn look_up(year: u8) -> Vec<u8> {
-    vec![0x4C, year]
 }
 
 /// A calm curve: 2.1% in the first year, 2.9% in the thirtieth, all moved by `shift`.

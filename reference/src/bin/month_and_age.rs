@@ -1,19 +1,16 @@
 //! Writes the month and the age of the curve that the journal of standard input leaves,
 //! in the words of examples/month_and_age.c.
 
-use std::io;
+use std::io::{self, Read};
 
-use reference::book::{Book, PAGE_LENGTH};
-use reference::desk::{answer, CallReader, Next, SheetFraming};
+use reference::book::PAGE_LENGTH;
+use reference::journal::book_after;
 
 fn main() -> io::Result<()> {
-    let mut book = Book::new();
-    let mut calls = CallReader::new(io::stdin().lock(), SheetFraming::LengthPrefixed);
-    while let Next::Call(call) = calls.next_call()? {
-        answer(&mut book, &call);
-    }
+    let mut journal = Vec::new();
+    io::stdin().read_to_end(&mut journal)?;
     let mut page = [0; PAGE_LENGTH];
-    match book.page(&mut page) {
+    match book_after(&journal).page(&mut page) {
         Err(refusal) => println!("refused: {}", refusal.number),
         Ok(()) => {
             let number = |at: usize| u16::from_be_bytes([page[at], page[at + 1]]);

@@ -3,17 +3,12 @@
 
 use std::io::{self, Read, Write};
 
-use reference::book::Book;
-use reference::desk::{answer, CallReader, Next, SheetFraming};
+use reference::journal::book_after;
 
 fn main() -> io::Result<()> {
     let mut journal = Vec::new();
     io::stdin().read_to_end(&mut journal)?;
-    let mut book = Book::new();
-    let mut calls = CallReader::new(&journal[..], SheetFraming::LengthPrefixed);
-    while let Next::Call(call) = calls.next_call()? {
-        answer(&mut book, &call);
-    }
+    let book = book_after(&journal);
     let mut output = io::stdout().lock();
     for length in [0, 1_504, 1_505, 2_000] {
         let mut lent = [7; 2_000];

@@ -1,0 +1,58 @@
+/* Goes through a journal and prints for each of its records that it is accepted, or why it is turned down:
+ * why_refused < journal
+ * Build: rt staticlib replay && cc -Iinclude examples/why_refused.c target/staticlib/libreplay.a -o why_refused
+ * A program that keeps a journal would ask the same before it adds a record. It compiles as C++ too. */
+#include <stdio.h>
+#include "tuyqorem.h"
+
+/* The grounds of docs/SPECIFICATION.md, section 9; a record can meet 1 to 14. */
+static const char *const reasons[] = {
+    "",
+    "the sheet's length is not 109",
+    "a record's kind or maturity is not the one due",
+    "a number is outside its range",
+    "no volume is above 0",
+    "the sheet's month is after the told month",
+    "the sheet's month is before the standing curve's",
+    "a low of years 1 to 50 is below 1",
+    "a high is above 2,000,000,000",
+    "an end of the halving fails its test",
+    "high less low is above the sheet's limit",
+    "the month is above 2,399",
+    "the month is before the told month",
+    "the year is not 1 to 150",
+    "the book has no curve",
+};
+
+/* Only a whole record is measured, so its length bytes are there. */
+static size_t record_length(const uint8_t *record) {
+    if (record[0] == 0x50) return 3 + record[1] * (size_t)256 + record[2];
+    return record[0] == 0x4D ? 3 : 2;
+}
+
+static void print_answer(uint64_t answer) {
+    unsigned number = (unsigned)(answer % 256), place = (unsigned)(answer / 256);
+    if (answer == 0)
+        printf("accepted\n");
+    else
+        printf("turned down on %u, place %u: %s\n", number, place, reasons[number]);
+}
+
+int main(void) {
+    static uint8_t calls[1 << 20];
+    size_t held = fread(calls, 1, sizeof calls, stdin);
+    if (held == sizeof calls) {
+        fprintf(stderr, "the journal is too long for this example\n");
+        return 1;
+    }
+    /* The first `at` bytes are the journal, and the record behind them is the call. */
+    size_t at = 0;
+    for (;;) {
+        uint64_t answer = tuyqorem_answer_after(calls, at, calls + at, held - at);
+        if (answer == 255) break;
+        print_answer(answer);
+        at += record_length(calls + at);
+    }
+    if (at < held) printf("no whole record at byte %lu\n", (unsigned long)at);
+    return 0;
+}

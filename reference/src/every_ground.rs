@@ -1,0 +1,80 @@
+//! A journal that meets every ground a record can meet. Its answers are written by hand,
+//! after the specification's grounds and figures, and not worked.
+
+use crate::journal::{look_up, post, turn};
+use crate::sheet::{Sheet, MATURITIES};
+use crate::streams::sheet_bytes;
+
+/// The records in order, each with the number and the place of its answer: 0 and 0 where
+/// it is accepted.
+pub fn records() -> Vec<(Vec<u8>, u8, u8)> {
+    let posted = |sheet: Sheet| post(&sheet_bytes(&sheet));
+    vec![
+        (look_up(150), 14, 0),
+        (post(&[]), 1, 0),
+        (post(&[sheet_bytes(&zero()), vec![0]].concat()), 1, 0),
+        (post(&[0; 109]), 2, 1),
+        (posted(with_rate(zero(), 12, 12_001)), 3, 12),
+        (posted(untraded()), 4, 0),
+        (posted(of_month(1)), 5, 0),
+        (posted(fall()), 7, 10),
+        (posted(flat(-2_000)), 8, 35),
+        (posted(with_rate(flat(3_000), 12, 12_000)), 9, 12),
+        (posted(limited(2_208)), 10, 150),
+        (look_up(150), 14, 0),
+        (turn(2_400), 11, 0),
+        (turn(2), 0, 0),
+        (turn(1), 12, 0),
+        (posted(of_month(1)), 0, 0),
+        (posted(limited(2_209)), 6, 0),
+        (look_up(0), 13, 0),
+        (look_up(151), 13, 0),
+        (look_up(150), 0, 0),
+    ]
+}
+
+/// The zero sheet: month, rates and UFR 0, volumes 1, limit 100,000.
+fn zero() -> Sheet {
+    Sheet {
+        month: 0,
+        rates: [0; 17],
+        volumes: [1; 5],
+        ufr: 0,
+        limit: 100_000,
+    }
+}
+
+fn of_month(month: u16) -> Sheet {
+    Sheet { month, ..zero() }
+}
+
+fn limited(limit: u32) -> Sheet {
+    Sheet { limit, ..zero() }
+}
+
+fn untraded() -> Sheet {
+    Sheet {
+        volumes: [0; 5],
+        ..zero()
+    }
+}
+
+fn flat(rate: i16) -> Sheet {
+    Sheet {
+        rates: [rate; 17],
+        ..zero()
+    }
+}
+
+/// Factors that rise for nine years and fall below 0 in the tenth.
+fn fall() -> Sheet {
+    let mut sheet = with_rate(zero(), 10, 12_000);
+    sheet.rates[..9].fill(-2_000);
+    sheet
+}
+
+fn with_rate(mut sheet: Sheet, maturity: u8, rate: i16) -> Sheet {
+    let quoted = MATURITIES.iter().position(|&m| m == maturity);
+    sheet.rates[quoted.expect("a quoted maturity")] = rate;
+    sheet
+}

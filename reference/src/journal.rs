@@ -1,0 +1,54 @@
+//! Journals: the calls of a list as bytes, made on a fresh book.
+
+use crate::book::Book;
+use crate::desk::{make, Call, CallReader, Next, SheetFraming, LOOK_UP, POST, TURN};
+use crate::refusal::Refusal;
+
+/// What `answer_after` gives where there is no whole record to be answered.
+pub const NO_RECORD: u64 = 255;
+
+/// The record of a post. A sheet has at most 65,535 bytes here, as its length has two.
+pub fn post(sheet: &[u8]) -> Vec<u8> {
+    let length = u16::try_from(sheet.len()).expect("a length of two bytes");
+    [&[POST], &length.to_be_bytes()[..], sheet].concat()
+}
+
+/// The record of a turn.
+pub fn turn(month: u16) -> Vec<u8> {
+    [&[TURN], &month.to_be_bytes()[..]].concat()
+}
+
+/// The record of a look-up.
+pub fn look_up(year: u8) -> Vec<u8> {
+    vec![LOOK_UP, year]
+}
+
+/// The calls of a journal, read until an unknown kind or a cut body.
+pub fn calls(journal: &[u8]) -> impl Iterator<Item = Call> + '_ {
+    let mut reader = CallReader::new(journal, SheetFraming::LengthPrefixed);
+    std::iter::from_fn(move || match reader.next_call() {
+        Ok(Next::Call(call)) => Some(call),
+        _ => None,
+    })
+    .fuse()
+}
+
+/// The book that the journal's calls leave.
+pub fn book_after(journal: &[u8]) -> Book {
+    let mut book = Book::new();
+    for call in calls(journal) {
+        // Refused or not: the book shows what the call did.
+        _ = make(&mut book, &call);
+    }
+    book
+}
+
+/// The answer to the first record of `call` after the journal's calls: 0 where it is
+/// accepted, else the refusal's code; `NO_RECORD` where `call` starts with none. What
+/// follows that record is not looked at.
+pub fn answer_after(journal: &[u8], call: &[u8]) -> u64 {
+    match calls(call).next() {
+        None => NO_RECORD,
+        Some(call) => make(&mut book_after(journal), &call).map_or_else(Refusal::code, |_| 0),
+    }
+}

@@ -1,0 +1,453 @@
+/* A yardstick of speed: the desk of docs/SPECIFICATION.md, sections 2 to 10, with the same steps in plain C. It reads the
+ * desk's records from standard input and prints the desk's lines. Nothing is proved of it and nothing else uses it:
+ * tools/bench compares its lines, then its time. Numbers in brackets are sections.
+ *
+ * Every number fits in 64 bits. A factor is at most 2 U by ground 8, and at most 2 U x 1.1^10 inside a trial, so that its
+ * product with a yearly factor stays below 6 x 10^18. A swap's value stays below 10^16, and the weighed sum of forwards
+ * below 2 x 10^16. */
+#include <math.h>
+#include <stdbool.h>
+#include <stdint.h>
+#include <stdio.h>
+
+#define U INT64_C(1000000000)
+#define RATE_UNIT INT64_C(100000)
+#define PAR (RATE_UNIT * U)
+
+enum { SHEET = 109, QUOTES = 17, VOLUMES = 5, SMOOTHING = 20, LAST_QUOTE = 50, YEARS = 150, LAST_MONTH = 2399 };
+
+static const int maturities[QUOTES] = {1, 2, 3, 4, 5, 6, 7, 8, 9, 10, 12, 15, 20, 25, 30, 40, 50};
+static const int volume_maturities[VOLUMES] = {20, 25, 30, 40, 50};
+
+/* The index of maturity 20, whose gap is the first with a forward that is used. */
+enum { FIRST_FORWARD = 12 };
+
+typedef struct {
+    int64_t low, high;
+} Pair;
+
+/* Number 0: no ground applies. */
+typedef struct {
+    int number, place;
+} Ground;
+
+typedef struct {
+    int month, rates[QUOTES], ufr;
+    int64_t volumes[VOLUMES], limit;
+} Sheet;
+
+typedef struct {
+    int told, month;
+    bool has_curve;
+    Pair factors[YEARS + 1]; /* by year; 0 is not used */
+} Book;
+
+static const Ground none = {0, 0};
+
+static Ground ground(int number, int place) {
+    Ground ground = {number, place};
+    return ground;
+}
+
+/* Rounding [1]. What is never below 0 is divided without a sign, which is faster. */
+
+static int64_t div_down(int64_t numerator, int64_t divisor) {
+    return numerator / divisor - (numerator % divisor < 0);
+}
+
+static int64_t div_up(int64_t numerator, int64_t divisor) {
+    return numerator / divisor + (numerator % divisor > 0);
+}
+
+static int64_t over_down(int64_t numerator, int64_t divisor) {
+    return (int64_t)((uint64_t)numerator / (uint64_t)divisor);
+}
+
+static int64_t over_up(int64_t numerator, int64_t divisor) { return over_down(numerator + divisor - 1, divisor); }
+
+static int64_t times_down(int64_t a, int64_t b) { return over_down(a * b, U); }
+
+static int64_t times_up(int64_t a, int64_t b) { return over_up(a * b, U); }
+
+/* The sheet [2]. */
+
+static int two_bytes(const uint8_t *at) { return at[0] << 8 | at[1]; }
+
+static int64_t four_bytes(const uint8_t *at) { return (int64_t)two_bytes(at) << 16 | two_bytes(at + 2); }
+
+static int rate_start(int j) { return 3 + 4 * j; }
+
+static int volume_start(int j) { return 71 + 6 * j; }
+
+enum { UFR_START = 101, LIMIT_START = 104 };
+
+static bool starts(const uint8_t *record, int kind, int maturity) { return record[0] == kind && record[1] == maturity; }
+
+static Ground check_kinds(const uint8_t *bytes) {
+    if (bytes[0] != 1) return ground(2, 1);
+    for (int j = 0; j < QUOTES; j++)
+        if (!starts(bytes + rate_start(j), 2, maturities[j])) return ground(2, 2 + j);
+    for (int j = 0; j < VOLUMES; j++)
+        if (!starts(bytes + volume_start(j), 3, volume_maturities[j])) return ground(2, 19 + j);
+    if (bytes[UFR_START] != 4) return ground(2, 24);
+    if (bytes[LIMIT_START] != 5) return ground(2, 25);
+    return none;
+}
+
+static Sheet numbers(const uint8_t *bytes) {
+    Sheet sheet;
+    sheet.month = two_bytes(bytes + 1);
+    for (int j = 0; j < QUOTES; j++) sheet.rates[j] = (int16_t)two_bytes(bytes + rate_start(j) + 2);
+    for (int j = 0; j < VOLUMES; j++) sheet.volumes[j] = four_bytes(bytes + volume_start(j) + 2);
+    sheet.ufr = two_bytes(bytes + UFR_START + 1);
+    sheet.limit = four_bytes(bytes + LIMIT_START + 1);
+    return sheet;
+}
+
+static Ground check_ranges(const Sheet *sheet) {
+    if (sheet->month > LAST_MONTH) return ground(3, 1);
+    for (int j = 0; j < QUOTES; j++)
+        if (sheet->rates[j] < -2000 || sheet->rates[j] > 12000) return ground(3, 2 + j);
+    for (int j = 0; j < VOLUMES; j++)
+        if (sheet->volumes[j] > 1000000) return ground(3, 19 + j);
+    if (sheet->ufr > 10000) return ground(3, 24);
+    if (sheet->limit < 1 || sheet->limit > 100000) return ground(3, 25);
+    return none;
+}
+
+/* The desk's sheets have the right length, so ground 1 has no place here. */
+static Ground read_sheet(const uint8_t *bytes, Sheet *sheet) {
+    Ground found = check_kinds(bytes);
+    if (found.number) return found;
+    *sheet = numbers(bytes);
+    found = check_ranges(sheet);
+    if (found.number) return found;
+    int64_t traded = 0;
+    for (int j = 0; j < VOLUMES; j++) traded += sheet->volumes[j];
+    return traded > 0 ? none : ground(4, 0);
+}
+
+/* Factors from the quotes [3]. */
+
+static Pair by_par(int64_t rate, Pair sum) {
+    int64_t for_low = rate >= 0 ? sum.high : sum.low, for_high = rate >= 0 ? sum.low : sum.high;
+    Pair factor = {div_down(PAR - rate * for_low, RATE_UNIT + rate), div_up(PAR - rate * for_high, RATE_UNIT + rate)};
+    return factor;
+}
+
+/* A gap: its years, the rate at its end, the factor before it and the sum of all factors before it. */
+typedef struct {
+    int years;
+    int64_t rate;
+    Pair start, sum;
+} Gap;
+
+/* T(k), and A + S, at a trial yearly factor x: lows alone, or highs alone. */
+typedef struct {
+    int64_t last, sum;
+} Trial;
+
+static Trial lows(const Gap *gap, int64_t x) {
+    Trial trial = {gap->start.low, gap->sum.low};
+    for (int j = 0; j < gap->years; j++) {
+        trial.last = times_down(trial.last, x);
+        trial.sum += trial.last;
+    }
+    return trial;
+}
+
+static Trial highs(const Gap *gap, int64_t x) {
+    Trial trial = {gap->start.high, gap->sum.high};
+    for (int j = 0; j < gap->years; j++) {
+        trial.last = times_up(trial.last, x);
+        trial.sum += trial.last;
+    }
+    return trial;
+}
+
+/* For a rate of 0 or more each test needs one side alone; for a rate below 0 the sum is the other side's. */
+
+static bool surely_not_above_par(const Gap *gap, int64_t x) {
+    Trial high = highs(gap, x);
+    int64_t sum = gap->rate >= 0 ? high.sum : lows(gap, x).sum;
+    return gap->rate * sum + RATE_UNIT * high.last <= PAR;
+}
+
+static bool surely_not_below_par(const Gap *gap, int64_t x) {
+    Trial low = lows(gap, x);
+    int64_t sum = gap->rate >= 0 ? low.sum : highs(gap, x).sum;
+    return gap->rate * sum + RATE_UNIT * low.last >= PAR;
+}
+
+static const int64_t lower_end = 800000000, upper_end = 1100000000;
+
+static int64_t low_x(const Gap *gap) {
+    int64_t low = lower_end, high = upper_end;
+    while (high - low > 1) {
+        int64_t middle = (low + high) / 2;
+        if (surely_not_above_par(gap, middle))
+            low = middle;
+        else
+            high = middle;
+    }
+    return low;
+}
+
+static int64_t high_x(const Gap *gap) {
+    int64_t low = lower_end, high = upper_end;
+    while (high - low > 1) {
+        int64_t middle = (low + high) / 2;
+        if (surely_not_below_par(gap, middle))
+            high = middle;
+        else
+            low = middle;
+    }
+    return high;
+}
+
+/* Years 1 to 50 as far as they are worked. */
+typedef struct {
+    int worked;
+    Pair factors[LAST_QUOTE + 1], sum, forwards[VOLUMES];
+} Quoted;
+
+static Ground add_year(Quoted *quoted, Pair factor) {
+    int year = ++quoted->worked;
+    if (factor.low < 1) return ground(7, year);
+    if (factor.high > 2 * U) return ground(8, year);
+    quoted->factors[year] = factor;
+    quoted->sum.low += factor.low;
+    quoted->sum.high += factor.high;
+    return none;
+}
+
+static Ground add_gap(Quoted *quoted, int years, int64_t rate, Pair *x) {
+    Pair factor = quoted->factors[quoted->worked];
+    Gap gap = {years, rate, factor, quoted->sum};
+    if (!surely_not_above_par(&gap, lower_end) || !surely_not_below_par(&gap, upper_end))
+        return ground(9, quoted->worked + years);
+    x->low = low_x(&gap);
+    x->high = high_x(&gap);
+    for (int j = 1; j < years; j++) {
+        factor.low = times_down(factor.low, x->low);
+        factor.high = times_up(factor.high, x->high);
+        Ground found = add_year(quoted, factor);
+        if (found.number) return found;
+    }
+    return none;
+}
+
+/* Logarithm and growth [4]. */
+
+static int64_t log_sum_down(int64_t x) {
+    int64_t z = over_down((x > U ? x - U : U - x) * U, U + x), s = times_down(z, z);
+    int64_t p2 = times_down(z, s), p3 = times_down(p2, s), p4 = times_down(p3, s), p5 = times_down(p4, s);
+    return 2 * (z + over_down(p2, 3) + over_down(p3, 5) + over_down(p4, 7) + over_down(p5, 9));
+}
+
+static int64_t log_sum_up(int64_t x) {
+    int64_t z = over_up((x > U ? x - U : U - x) * U, U + x), s = times_up(z, z);
+    int64_t p2 = times_up(z, s), p3 = times_up(p2, s), p4 = times_up(p3, s), p5 = times_up(p4, s);
+    return 2 * (z + over_up(p2, 3) + over_up(p3, 5) + over_up(p4, 7) + over_up(p5, 9));
+}
+
+static int64_t log_low(int64_t x) { return x > U ? -(log_sum_up(x) + 1) : log_sum_down(x); }
+
+static int64_t log_high(int64_t x) { return x > U ? -log_sum_down(x) : log_sum_up(x) + 1; }
+
+static int64_t growth_low(int64_t y) {
+    int64_t term = U, sum = U;
+    for (int i = 1; i <= 7; i++) {
+        term = over_down(term * y, i * U);
+        sum += term;
+    }
+    return sum;
+}
+
+static int64_t growth_high(int64_t y) {
+    int64_t term = U, sum = U;
+    for (int i = 1; i <= 7; i++) {
+        term = over_up(term * y, i * U);
+        sum += term;
+    }
+    return sum + 1;
+}
+
+static Ground work_quotes(const Sheet *sheet, Quoted *quoted) {
+    Ground found = none;
+    quoted->worked = 0;
+    quoted->sum.low = quoted->sum.high = 0;
+    for (int j = 0; j < QUOTES; j++) {
+        int years = maturities[j] - quoted->worked;
+        if (years > 1) {
+            Pair x;
+            found = add_gap(quoted, years, sheet->rates[j], &x);
+            if (found.number) return found;
+            if (j >= FIRST_FORWARD) {
+                Pair forward = {log_low(x.high), log_high(x.low)};
+                quoted->forwards[j - FIRST_FORWARD] = forward;
+            }
+        }
+        found = add_year(quoted, by_par(sheet->rates[j], quoted->sum));
+        if (found.number) return found;
+    }
+    return none;
+}
+
+/* Extrapolated years [5]. */
+
+enum { EXTRAPOLATED = YEARS - SMOOTHING };
+
+static int64_t table_k[EXTRAPOLATED + 1]; /* by h; 0 is not used */
+
+/* Long doubles leave nine digits to spare, and the compared lines would show a wrong one. */
+static void fill_table_k(void) {
+    for (int h = 1; h <= EXTRAPOLATED; h++)
+        table_k[h] = (int64_t)floorl(10.0L * U * (expl((1 - h) / 10.0L) - expl(-h / 10.0L)));
+}
+
+/* The numerator of LLFR, on the forwards' lows or highs. */
+static int64_t weighed(const int64_t *v, int64_t g1, int64_t g2, int64_t g3, int64_t g4, int64_t g5) {
+    return 12 * v[0] * g1 + 12 * v[1] * g2 + 6 * v[2] * (g2 + g3) + 3 * v[3] * (g2 + g3 + 2 * g4) +
+           2 * v[4] * (g2 + g3 + 2 * g4 + 2 * g5);
+}
+
+static Pair last_liquid_forward(const int64_t *v, const Pair *g) {
+    int64_t divisor = 12 * (v[0] + v[1] + v[2] + v[3] + v[4]);
+    Pair llfr = {div_down(weighed(v, g[0].low, g[1].low, g[2].low, g[3].low, g[4].low), divisor),
+                 div_up(weighed(v, g[0].high, g[1].high, g[2].high, g[3].high, g[4].high), divisor)};
+    return llfr;
+}
+
+static int64_t smaller(int64_t a, int64_t b) { return a < b ? a : b; }
+
+static int64_t larger(int64_t a, int64_t b) { return a > b ? a : b; }
+
+static int64_t forward_low(Pair l, Pair llfr, int64_t k) { return div_down(l.low * (U - k) + llfr.low * k, U); }
+
+static int64_t forward_high(Pair l, Pair llfr, int64_t k) { return div_up(l.high * (U - k) + llfr.high * k, U); }
+
+static Pair year_forward(Pair l, Pair llfr, int64_t k) {
+    Pair forward = {smaller(forward_low(l, llfr, k), forward_low(l, llfr, k + 1)),
+                    larger(forward_high(l, llfr, k), forward_high(l, llfr, k + 1))};
+    return forward;
+}
+
+static int64_t next_low(int64_t low, int64_t f) {
+    return f >= 0 ? over_down(low * U, growth_high(f)) : times_down(low, growth_low(-f));
+}
+
+static int64_t next_high(int64_t high, int64_t f) {
+    return f >= 0 ? over_up(high * U, growth_low(f)) : times_up(high, growth_high(-f));
+}
+
+static Ground extrapolate(const Sheet *sheet, const Pair *forwards, Pair *factors) {
+    int64_t ultimate = U + 10000 * (int64_t)sheet->ufr;
+    Pair l = {-log_high(ultimate), -log_low(ultimate)};
+    Pair llfr = last_liquid_forward(sheet->volumes, forwards);
+    for (int h = 1; h <= EXTRAPOLATED; h++) {
+        Pair before = factors[SMOOTHING + h - 1], forward = year_forward(l, llfr, table_k[h]);
+        Pair factor = {next_low(before.low, forward.high), next_high(before.high, forward.low)};
+        if (factor.high > 2 * U) return ground(8, SMOOTHING + h);
+        factors[SMOOTHING + h] = factor;
+    }
+    return none;
+}
+
+static Ground work_curve(const Sheet *sheet, Pair *factors) {
+    Quoted quoted;
+    Ground found = work_quotes(sheet, &quoted);
+    if (found.number) return found;
+    for (int year = 1; year <= SMOOTHING; year++) factors[year] = quoted.factors[year];
+    found = extrapolate(sheet, quoted.forwards, factors);
+    if (found.number) return found;
+    for (int year = 1; year <= YEARS; year++)
+        if (factors[year].high - factors[year].low > sheet->limit) return ground(10, year);
+    return none;
+}
+
+/* The book [7]. */
+
+static Ground post(Book *book, const uint8_t *bytes) {
+    Sheet sheet;
+    Pair factors[YEARS + 1];
+    Ground found = read_sheet(bytes, &sheet);
+    if (found.number) return found;
+    if (sheet.month > book->told) return ground(5, 0);
+    if (book->has_curve && sheet.month < book->month) return ground(6, 0);
+    found = work_curve(&sheet, factors);
+    if (found.number) return found;
+    for (int year = 1; year <= YEARS; year++) book->factors[year] = factors[year];
+    book->month = sheet.month;
+    book->has_curve = true;
+    return none;
+}
+
+static Ground turn(Book *book, int month) {
+    if (month > LAST_MONTH) return ground(11, 0);
+    if (month < book->told) return ground(12, 0);
+    book->told = month;
+    return none;
+}
+
+static Ground look_up(const Book *book, int year, Pair *factor) {
+    if (year < 1 || year > YEARS) return ground(13, 0);
+    if (!book->has_curve) return ground(14, 0);
+    *factor = book->factors[year];
+    return none;
+}
+
+/* The desk [10]. */
+
+static void print_refusal(Ground ground) { printf("R %d %d\n", ground.number, ground.place); }
+
+static void answer_post(Book *book, const uint8_t *body) {
+    Ground found = post(book, body);
+    if (found.number)
+        print_refusal(found);
+    else
+        printf("P %d\n", book->month);
+}
+
+static void answer_turn(Book *book, const uint8_t *body) {
+    Ground found = turn(book, two_bytes(body));
+    if (found.number)
+        print_refusal(found);
+    else
+        printf("M %d\n", book->told);
+}
+
+static void answer_look_up(const Book *book, const uint8_t *body) {
+    Pair factor;
+    Ground found = look_up(book, body[0], &factor);
+    if (found.number)
+        print_refusal(found);
+    else
+        printf("L %d %lld %lld %d %d\n", body[0], (long long)factor.low, (long long)factor.high, book->month,
+               book->told - book->month);
+}
+
+/* 0 for an unknown kind. */
+static size_t body_length(int kind) { return kind == 0x50 ? SHEET : kind == 0x4D ? 2 : kind == 0x4C ? 1 : 0; }
+
+int main(void) {
+    static Book book; /* all zero: a fresh one */
+    uint8_t body[SHEET];
+    unsigned long long offset = 0;
+    fill_table_k();
+    for (int kind; (kind = getchar()) != EOF;) {
+        size_t length = body_length(kind);
+        if (length == 0 || fread(body, 1, length, stdin) < length) {
+            printf("X %llu\n", offset);
+            break;
+        }
+        if (kind == 0x50)
+            answer_post(&book, body);
+        else if (kind == 0x4D)
+            answer_turn(&book, body);
+        else
+            answer_look_up(&book, body);
+        offset += 1 + length;
+    }
+    return 0;
+}
