@@ -1,5 +1,4 @@
 pub mod Soundness
-pub mod Judged
-pub mod Inside
+pub mod NextYears
 pub mod Walking
 pub mod Order

@@ -12,7 +12,7 @@ use Rattle.method.proofs.QuotesBounds.{each-snoc, annuity-ordered, annuity-at-m
 use Rattle.method.proofs.Zips.{zip-next, zip-first}
 use Rattle.rounding.specs.Pairs.{PairAtMost}
 use Rattle.bootstrap.specs.declared.Liquid.{Liquid}
-use Rattle.bootstrap.specs.Liquids.{asBootstrap, withYear, withGap, LiquidSound}
+use Rattle.bootstrap.specs.Liquids.{asBootstrap, withGap, LiquidSound}
 
 module _ {w : Liquid} (sound : LiquidSound w) where
   pub same-length : length (w .lows) ≡ length (w .highs)
@@ -49,11 +49,8 @@ module _ {w : Liquid} (sound : LiquidSound w) where
           gaps = w .gaps;
         }
 
-    factors-more : asBootstrap longer .factors ≡ asBootstrap w .factors ++ pair low high ∷ []
+    pub factors-more : asBootstrap longer .factors ≡ asBootstrap w .factors ++ pair low high ∷ []
     factors-more = zip-next pair (w .lows) (w .highs) (w .count) low high same-length (omega (arith, sound .long-lows))
-
-    pub year-joined : asBootstrap longer ≡ withYear (asBootstrap w) (pair low high)
-    year-joined = rw factors-more
 
     pub year-sound : LiquidSound longer
     year-sound =

@@ -1,15 +1,17 @@
 -- The code's liquid part as the method's: the factors and the yearly factors so far.
 use mathlib.Core.Path.{_≡_}
+use mathlib.Core.Bool.{Bool, true, false}
 use mathlib.Core.List.{List, [], _∷_, _++_}
-use Prim.Native.Nat.{ℕ, _-_, _/_, _≤_, _<_}
-use lib.IntN.{ℤ}
+use Prim.Native.Nat.{ℕ, zero, suc, _+_, _*_, _-_, _/_, _≤_, _<_}
+use lib.IntN.{ℤ, pos, natAbs}
 use lib.ListN.{length, take}
-use Rattle.fraction.specs.Rounding.{ceilDiv}
-use Rattle.method.specs.Units.{Pair, pairsOf}
+use Rattle.fraction.specs.Rounding.{U, ceilDiv}
+use Rattle.method.specs.Units.{Pair, SignedPair, pair, signedPair, pairsOf}
 use Rattle.method.specs.Grounds.{Outcome, done, _>>=_}
-use Rattle.method.specs.Quotes.{Bootstrap, Quote, annuity, trial, insideYears}
-use Rattle.method.specs.Ranges.{Each, Factor, YearlyFactor, gapsWith}
+use Rattle.method.specs.Quotes.{Bootstrap, Quote, annuity, parLow, parHigh, trial, nextYear, quotedYear, insideYears}
+use Rattle.method.specs.Ranges.{Each, Factor, gapsWith}
 use Rattle.rounding.specs.Pairs.{asPair}
+use Rattle.grounds.specs.declared.Verdict.{Verdict}
 use Rattle.grounds.specs.Verdicts.{asOutcome}
 use Rattle.bootstrap.specs.declared.Liquid.{Liquid}
 use Rattle.bootstrap.specs.declared.Step.{Step}
@@ -34,9 +36,6 @@ nothing = record { factors = []; yearlyFactors = [] }
 abbrev pub withFactors : Bootstrap → List Pair → Bootstrap
 withFactors b factors = record { factors = factors; yearlyFactors = b .yearlyFactors }
 
-abbrev pub withYear : Bootstrap → Pair → Bootstrap
-withYear b p = withFactors b (b .factors ++ p ∷ [])
-
 abbrev pub withGap : Bootstrap → Pair → Bootstrap
 withGap b x = record { factors = b .factors; yearlyFactors = b .yearlyFactors ++ x ∷ [] }
 
@@ -44,9 +43,20 @@ withGap b x = record { factors = b .factors; yearlyFactors = b .yearlyFactors ++
 abbrev pub lifted : Bootstrap → Outcome (List Pair) → Outcome Bootstrap
 lifted b o = o >>= λ factors. done (withFactors b factors)
 
--- k years inside a gap from the factor t at the yearly factor x
-abbrev pub insideAt : Pair → Pair → ℕ → List Pair → Outcome (List Pair)
-insideAt t x k = insideYears (trial _/_ (t .low) (x .low) k) (trial ceilDiv (t .high) (x .high) k)
+-- v is the verdict on a low and a high as the factor of this year, whatever the factors before it
+abbrev pub Judges : ℕ → ℤ → ℤ → Verdict → Type 0
+Judges year low high v =
+    (ps : List Pair) → length ps + 1 ≡ year → asOutcome v (ps ++ pair (natAbs low) (natAbs high) ∷ []) ≡ nextYear ps low high
+
+-- the next year's low and high, before they are judged: inside a gap from the factor t at the yearly factor x, otherwise by par on A
+abbrev pub nextFactor : Bool → Pair → Pair → ℤ → Pair → SignedPair
+nextFactor true t x r a = signedPair (pos (t .low * x .low / U)) (pos (ceilDiv (t .high * x .high) U))
+nextFactor false t x r a = signedPair (parLow r a) (parHigh r a)
+
+-- the next k years, the last by par, those before it inside a gap from the factor t at the yearly factor x
+abbrev pub nextYears : Pair → Pair → ℕ → ℤ → List Pair → Outcome (List Pair)
+nextYears t x zero r ps = done ps
+nextYears t x (suc k) r ps = insideYears (trial _/_ (t .low) (x .low) k) (trial ceilDiv (t .high) (x .high) k) ps >>= quotedYear r
 
 abbrev pub quote : ℕ → ℤ → Quote
 quote m r = record { maturity = m; rate = r }

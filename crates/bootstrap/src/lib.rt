@@ -4,19 +4,19 @@ use gap::Gap;
 use grounds::Ground;
 use grounds::Verdict;
 use rounding::Pair;
+use rounding::SignedPair;
 ghost use mathlib.Core.Path.{_≡_};
 ghost use Prim.Native.Nat.{ℕ, _+_, _≤_, _<_};
 ghost use lib.IntN.{pos};
 ghost use lib.ListN.{getD};
-ghost use lib.Signed.{mag, _≤ℤ_};
-ghost use Rattle.method.specs.Units.{pair};
+ghost use lib.Signed.{mag};
 ghost use Rattle.method.specs.Sheet.{maturities};
 ghost use Rattle.method.specs.Ranges.{Factor};
-ghost use Rattle.method.specs.Quotes.{nextYear, lastYear, gapAfter, gapYears, parYear, yearsTo, quotesOf, bootstrap, upperEnd};
-ghost use Rattle.rounding.specs.Pairs.{asPair};
+ghost use Rattle.method.specs.Quotes.{lastYear, gapAfter, gapYears, yearsTo, quotesOf, bootstrap, upperEnd};
+ghost use Rattle.rounding.specs.Pairs.{asPair, asSignedPair, PairAtMost};
 ghost use Rattle.grounds.specs.Verdicts.{asOutcome, resultOr};
 ghost use Rattle.gap.specs.Gaps.{asGap, GapFits};
-ghost use Rattle.bootstrap.specs.Liquids.{asBootstrap, asStep, nothing, withYear, withGap, lifted, insideAt, LiquidSound, Reaches, quote};
+ghost use Rattle.bootstrap.specs.Liquids.{asBootstrap, asStep, nothing, withGap, lifted, Judges, nextFactor, nextYears, LiquidSound, Reaches, quote};
 
 // U of the definitions.
 const UNIT: u64 = 1_000_000_000;
@@ -27,8 +27,8 @@ const QUOTES: usize = 17;
 
 // The first `count` factors, and A, their sum; the low and the high yearly factor of the first `gaps` gaps.
 pub struct Liquid {
-    pub lows: [u64; 50],
-    pub highs: [u64; 50],
+    pub lows: [u32; 50],
+    pub highs: [u32; 50],
     pub count: usize,
     pub annuity: Pair,
     pub xlows: [u64; 7],
@@ -63,61 +63,77 @@ fn fresh() -> Liquid
     }
 }
 
-// ---- the next year
+// ---- the next years
 
-// One year more, and A with it.
-fn joined(w: Liquid, low: u64, high: u64) -> Liquid
-    requires { ⌜ LiquidSound w × (w .count < 50) × Factor (pair low high) ⌝ }
-    ensures { λ r. ⌜ (asBootstrap r ≡ withYear (asBootstrap w) (pair low high)) × LiquidSound r ⌝ }
+// 7 before 8.
+fn judge(year: u64, low: i64, high: i64) -> Verdict
+    ensures { λ r. ⌜ Judges year low high r ⌝ }
 {
-    let n = w.count;
-    let annuity = Pair {
-        low: w.annuity.low + low,
-        high: w.annuity.high + high,
-    };
-    let mut next = w;
-    next.lows[n] = low;
-    next.highs[n] = high;
-    next.count = n + 1;
-    next.annuity = annuity;
-    next
-}
-
-// The next year's factor, judged: 7 before 8.
-fn next_year(w: Liquid, low: i64, high: i64) -> Step
-    requires { ⌜ LiquidSound w × (w .count < 50) × (low ≤ℤ high) ⌝ }
-    ensures { λ r. ⌜ (asStep r ≡ lifted (asBootstrap w) (nextYear (asBootstrap w .factors) low high)) × LiquidSound (r .liquid) ⌝ }
-{
-    let year = w.count as u64 + 1;
     if low < 1 {
-        return Step {
-            verdict: Verdict::Refused(Ground::LowBelowOne(year)),
-            liquid: w,
-        };
+        return Verdict::Refused(Ground::LowBelowOne(year));
     }
     if HIGHEST_FACTOR < high {
-        return Step {
-            verdict: Verdict::Refused(Ground::HighAboveLimit(year)),
-            liquid: w,
+        return Verdict::Refused(Ground::HighAboveLimit(year));
+    }
+    Verdict::Passed
+}
+
+// Before it is judged: inside a gap the factor before it by the yearly factor, otherwise by par.
+fn next_factor(inside: bool, p: Pair, x: Pair, rate: i64, annuity: Pair) -> SignedPair
+    requires { ⌜ Factor (asPair p) × (x .low ≤ x .high) × (x .high ≤ upperEnd) × (mag rate ≤ 12_000) × PairAtMost 100_000_000_000 annuity ⌝ }
+    ensures { λ r. ⌜ asSignedPair r ≡ nextFactor inside (asPair p) (asPair x) rate (asPair annuity) ⌝ }
+{
+    if inside {
+        SignedPair {
+            low: rounding::scale(p.low, x.low, false) as i64,
+            high: rounding::scale(p.high, x.high, true) as i64,
+        }
+    } else {
+        SignedPair {
+            low: gap::par_factor(rate, annuity, false),
+            high: gap::par_factor(rate, annuity, true),
+        }
+    }
+}
+
+// The next k years, the last by par, those before it inside a gap; each is judged in turn. They are written in place, because a call
+// for each would copy the arrays.
+fn next_years(w: Liquid, from: Pair, x: Pair, k: u64, rate: i64) -> Step
+    requires { ⌜ LiquidSound w × (w .count + k ≤ 50) × Factor (asPair from) × (x .low ≤ x .high) × (x .high ≤ upperEnd) × (mag rate ≤ 12_000) ⌝ }
+    ensures { λ r. ⌜ (asStep r ≡ lifted (asBootstrap w) (nextYears (asPair from) (asPair x) k rate (asBootstrap w .factors))) × LiquidSound (r .liquid) ⌝ }
+{
+    let mut liquid = w;
+    let mut p = from;
+    let mut left = k;
+    while 0 < left {
+        let n = liquid.count;
+        let annuity = liquid.annuity;
+        let next = next_factor(1 < left, p, x, rate, annuity);
+        let verdict = judge(n as u64 + 1, next.low, next.high);
+        let Verdict::Passed = verdict else {
+            return Step {
+                verdict: verdict,
+                liquid: liquid,
+            };
         };
+        p = Pair {
+            low: next.low as u64,
+            high: next.high as u64,
+        };
+        liquid.lows[n] = p.low as u32;
+        liquid.highs[n] = p.high as u32;
+        liquid.count = n + 1;
+        let sum = Pair {
+            low: annuity.low + p.low,
+            high: annuity.high + p.high,
+        };
+        liquid.annuity = sum;
+        left = left - 1;
     }
     Step {
         verdict: Verdict::Passed,
-        liquid: joined(w, low as u64, high as u64),
+        liquid: liquid,
     }
-}
-
-// The next year by par.
-fn par_year(w: Liquid, rate: i64) -> Step
-    requires { ⌜ LiquidSound w × (w .count < 50) × (mag rate ≤ 12_000) ⌝ }
-    ensures { λ r. ⌜ (asStep r ≡ parYear rate (asBootstrap w)) × LiquidSound (r .liquid) ⌝ }
-{
-    let annuity = w.annuity;
-    next_year(
-        w,
-        gap::par_factor(rate, annuity, false),
-        gap::par_factor(rate, annuity, true),
-    )
 }
 
 // ---- a gap
@@ -134,11 +150,9 @@ fn last_year(w: Liquid) -> Pair
             high: UNIT,
         };
     }
-    let lows = w.lows;
-    let highs = w.highs;
     Pair {
-        low: lows[n - 1],
-        high: highs[n - 1],
+        low: w.lows[n - 1] as u64,
+        high: w.highs[n - 1] as u64,
     }
 }
 
@@ -154,35 +168,6 @@ fn gap_after(w: Liquid, k: u64, rate: i64) -> Gap
         years: k,
         annuity: annuity,
         start: start,
-    }
-}
-
-// The n years from a factor at a yearly factor, lows down and highs up, each judged in turn.
-fn inside_years(w: Liquid, from: Pair, x: Pair, n: u64) -> Step
-    requires { ⌜ LiquidSound w × (w .count + n ≤ 50) × Factor (asPair from) × (x .low ≤ x .high) × (x .high ≤ upperEnd) ⌝ }
-    ensures { λ r. ⌜ (asStep r ≡ lifted (asBootstrap w) (insideAt (asPair from) (asPair x) n (asBootstrap w .factors))) × LiquidSound (r .liquid) ⌝ }
-{
-    let mut liquid = w;
-    let mut low = from.low;
-    let mut high = from.high;
-    let mut left = n;
-    while 0 < left {
-        low = rounding::scale(low, x.low, false);
-        high = rounding::scale(high, x.high, true);
-        let step = next_year(liquid, low as i64, high as i64);
-        let verdict = step.verdict;
-        liquid = step.liquid;
-        let Verdict::Passed = verdict else {
-            return Step {
-                verdict: verdict,
-                liquid: liquid,
-            };
-        };
-        left = left - 1;
-    }
-    Step {
-        verdict: Verdict::Passed,
-        liquid: liquid,
     }
 }
 
@@ -214,16 +199,7 @@ fn gap_years(w: Liquid, k: u64, rate: i64) -> Step
     }
     let x = gap::yearly_factor(g);
     let start = g.start;
-    let inside = inside_years(joined_gap(w, x), start, x, k - 1);
-    let verdict = inside.verdict;
-    let within = inside.liquid;
-    let Verdict::Passed = verdict else {
-        return Step {
-            verdict: verdict,
-            liquid: within,
-        };
-    };
-    par_year(within, rate)
+    next_years(joined_gap(w, x), start, x, k, rate)
 }
 
 // ---- the quotes in order
@@ -235,7 +211,11 @@ fn years_to(w: Liquid, maturity: u64, rate: i64) -> Step
 {
     let k = maturity - w.count as u64;
     if k == 1 {
-        par_year(w, rate)
+        let one = Pair {
+            low: UNIT,
+            high: UNIT,
+        };
+        next_years(w, one, one, 1, rate)
     } else {
         gap_years(w, k, rate)
     }

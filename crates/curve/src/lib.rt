@@ -47,8 +47,8 @@ fn first_years(q: Liquid) -> Years
         highs: [0; 150],
     };
     for i in 0..SMOOTHING_YEAR {
-        years.lows[i] = q.lows[i];
-        years.highs[i] = q.highs[i];
+        years.lows[i] = q.lows[i] as u64;
+        years.highs[i] = q.highs[i] as u64;
     }
     years
 }

@@ -14,14 +14,17 @@ returns : tie.Need-returns
 unfolding zipWith
 returns c = rw (c .if1 .taken) (sym lastYear-none)
 
-sub-t6 : tie.Need-sub-t6
-sub-t6 c = search needs
+sub-t5 : tie.Need-sub-t5
+sub-t5 c = search needs
 
-mul-t7 : tie.Need-mul-t7
-mul-t7 c = search needs
+mul-t6 : tie.Need-mul-t6
+mul-t6 c = search needs
 
-array-read-t10 : tie.Need-array-read-t10
-array-read-t10 c = search needs
+element-copy-out-t9 : tie.Need-element-copy-out-t9
+element-copy-out-t9 c = search needs
+
+cast-t10 : tie.Need-cast-t10
+cast-t10 c = search needs
 
 sub-t11 : tie.Need-sub-t11
 sub-t11 c = search needs
@@ -29,13 +32,16 @@ sub-t11 c = search needs
 mul-t12 : tie.Need-mul-t12
 mul-t12 c = search needs
 
-array-read-t15 : tie.Need-array-read-t15
-array-read-t15 c = search needs
+element-copy-out-t15 : tie.Need-element-copy-out-t15
+element-copy-out-t15 c = search needs
+
+cast-t16 : tie.Need-cast-t16
+cast-t16 c = search needs
 
 returns-2 : tie.Need-returns-2
 returns-2 c =
     let branch = c .before .before in
-    let w = branch .before .args .w in
+    let w = branch .before .args .t1 in
     let sound = branch .before .pre in
     let some = branch .if1 .left in
     let n : w .count - 1 + 1 ≡ w .count = omega (arith, some) in
@@ -44,4 +50,4 @@ returns-2 c =
 pub last-year-spec : {M : Type 1} → statement M
 last-year-spec =
     tie.close
-    (tie.spec returns sub-t6 mul-t7 array-read-t10 sub-t11 mul-t12 array-read-t15 returns-2)
+    (tie.spec returns sub-t5 mul-t6 element-copy-out-t9 cast-t10 sub-t11 mul-t12 element-copy-out-t15 cast-t16 returns-2)

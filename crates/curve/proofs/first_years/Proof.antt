@@ -39,6 +39,9 @@ mul-years c = search needs
 element-copy-out-years : tie.Need-element-copy-out-years Inv-loop μ-loop
 element-copy-out-years c = search needs
 
+cast-years : tie.Need-cast-years Inv-loop μ-loop
+cast-years c = search needs
+
 mul-years-2 : tie.Need-mul-years-2 Inv-loop μ-loop
 mul-years-2 c = search needs
 
@@ -50,6 +53,9 @@ mul-years-3 c = search needs
 
 element-copy-out-years-2 : tie.Need-element-copy-out-years-2 Inv-loop μ-loop
 element-copy-out-years-2 c = search needs
+
+cast-years-2 : tie.Need-cast-years-2 Inv-loop μ-loop
+cast-years-2 c = search needs
 
 mul-years-4 : tie.Need-mul-years-4 Inv-loop μ-loop
 mul-years-4 c = search needs
@@ -90,10 +96,12 @@ first-years-spec =
     loop-holds
     mul-years
     element-copy-out-years
+    cast-years
     mul-years-2
     element-write-years
     mul-years-3
     element-copy-out-years-2
+    cast-years-2
     mul-years-4
     element-write-years-2
     add-i
