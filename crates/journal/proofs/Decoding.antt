@@ -1,7 +1,7 @@
 -- A journal, record by record: the calls that are left lead from the book in hand to the book of all calls.
 use mathlib.Core.Path.{_≡_, refl, ap, sym, _∙_}
 use mathlib.Core.Bool.{Bool, true, false, cond}
-use mathlib.Core.List.{List, [], _∷_}
+use mathlib.Core.List.{List, []}
 use Prim.Native.Nat.{ℕ, zero, suc, _+_, _-_, _≤_, _<_}
 use native.Mathlib.Omega.{arith}
 use lib.Dec.{leb, eqb}
@@ -15,7 +15,7 @@ use Rattle.book.specs.Views.{asBook}
 use Rattle.journal.specs.Journal.{Front, whole, cut, unknown, sheetAt, sheetLength, sheetIn, recordOf, postFront, turnFront, lookFront, front}
 use Rattle.journal.specs.Journal.{andThen, decodeFrom, decode}
 use Rattle.journal.specs.Replies.{bookAfter, taken}
-use Rattle.journal.specs.Made.{MakesFront, Makes}
+use Rattle.journal.specs.Made.{Makes}
 use Rattle.journal.specs.declared.Made.{Made}
 
 -- ---- a whole record has at least a byte

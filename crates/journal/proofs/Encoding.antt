@@ -1,15 +1,15 @@
 -- Every list of posts, turns and look-ups that records have room for is the meaning of some bytes.
-use mathlib.Core.Path.{_≡_, refl, ap, sym, _∙_}
+use mathlib.Core.Path.{_≡_, refl, ap, _∙_}
 use mathlib.Core.Bool.{true}
 use mathlib.Core.List.{List, [], _∷_, _++_}
 use Prim.Native.Nat.{ℕ, zero, suc, _+_, _*_, _/_, _%_, _≤_, _<_}
 use native.Mathlib.Omega.{arith}
 use lib.Dec.{eqb·suc-zero}
-use lib.ListN.{length, take, drop, length-append}
+use lib.ListN.{length, length-append}
 use lib.Seq.{take-at, drop-append-seam}
 use borrow.Author.Tests.{le-leb}
 use Rattle.ledger.specs.Calls.{Call, postOf, turnTo, lookAt, pageInto, asks}
-use Rattle.journal.specs.Journal.{Front, whole, recordOf, front, andThen, decodeFrom, decode, encoded, encode, AreBytes, Fits, AllFit}
+use Rattle.journal.specs.Journal.{whole, recordOf, front, decodeFrom, decode, encoded, encode, AreBytes, Fits, AllFit}
 use Rattle.journal.proofs.Decoding.{front-end}
 
 two-bytes : (n : ℕ) → n < 65_536 → n / 256 % 256 * 256 + n % 256 ≡ n

@@ -1,10 +1,9 @@
 -- Worked examples of the journal.
-use mathlib.Core.Bool.{true, false}
+use mathlib.Core.Bool.{false}
 use mathlib.Core.Path.{_≡_, refl}
-use mathlib.Core.List.{List, [], _∷_}
-use Prim.Native.Nat.{ℕ}
-use Rattle.ledger.specs.Calls.{Call, postOf, turnTo, lookAt, asks}
-use Rattle.journal.specs.Journal.{whole, cut, unknown, front, decodeFrom, decode}
+use mathlib.Core.List.{[], _∷_}
+use Rattle.ledger.specs.Calls.{postOf, turnTo, lookAt, asks}
+use Rattle.journal.specs.Journal.{cut, unknown, front, decodeFrom, decode}
 
 -- a turn to month 2 × 256 + 1, a post of two bytes, a look-up of year 150
 day : decode (0x4D ∷ 2 ∷ 1 ∷ 0x50 ∷ 0 ∷ 2 ∷ 7 ∷ 8 ∷ 0x4C ∷ 150 ∷ []) ≡ turnTo 513 ∷ postOf (7 ∷ 8 ∷ []) ∷ asks (lookAt 150) ∷ []

@@ -1,18 +1,15 @@
 -- What is handed back where a record is cut, where it is whole, and where its kind is not known.
-use mathlib.Core.Path.{_≡_, refl, ap, sym, _∙_}
+use mathlib.Core.Path.{_≡_, refl, ap, _∙_}
 use mathlib.Core.Bool.{Bool}
 use mathlib.Core.List.{List}
-use Prim.Native.Nat.{ℕ, _+_, _-_, _≤_, _<_}
-use native.Mathlib.Nat.{add-sub-cancel-left}
+use Prim.Native.Nat.{ℕ, _≤_, _<_}
 use native.Mathlib.Omega.{arith}
-use lib.ListN.{length, getD, take, drop}
+use lib.ListN.{length, getD}
 use borrow.Author.Tests.{le-leb, lt-leb, eq-eqb, ne-eqb}
 use Rattle.ledger.specs.Answers as answer
 use Rattle.ledger.specs.Book as ledger
 use Rattle.ledger.specs.Book.{post, turn, lookUp}
 use Rattle.ledger.specs.Calls.{Call, postOf, turnTo, lookAt, asks}
-use Rattle.ledger.specs.Tells.{read2}
-use Rattle.method.specs.Grounds.{Outcome}
 use Rattle.grounds.specs.declared.Verdict.{Verdict}
 use Rattle.grounds.specs.Verdicts.{asOutcome, resultOr}
 use Rattle.book.specs.declared.Book.{Book}
@@ -20,7 +17,7 @@ use Rattle.book.specs.declared.Booked.{Booked}
 use Rattle.book.specs.declared.Finding.{Finding}
 use Rattle.book.specs.declared.Looked.{Looked}
 use Rattle.book.specs.Views.{asBook, asBooked, asFinding, noFinding}
-use Rattle.journal.specs.Journal.{Front, whole, cut, unknown, recordOf, postFront, turnFront, lookFront, front}
+use Rattle.journal.specs.Journal.{Front, cut, unknown, recordOf, postFront, turnFront, lookFront, front}
 use Rattle.journal.specs.Replies.{posted, turned, looked, replyTo, bookAfter, taken}
 use Rattle.journal.specs.Made.{asReply, monthBeside, findingBeside, NoCall, MakesFront}
 use Rattle.journal.specs.declared.Reply.{Reply}

@@ -5,7 +5,7 @@ use Prim.Native.Nat.{ℕ, zero, suc, _+_, _-_, _<_}
 use lib.Dec.{leb, eqb}
 use lib.ListN.{length, getD, take, drop}
 use Rattle.method.specs.Bytes.{bytes2}
-use Rattle.ledger.specs.Calls.{Question, lookAt, pageInto, Call, postOf, turnTo, asks}
+use Rattle.ledger.specs.Calls.{lookAt, pageInto, Call, postOf, turnTo, asks}
 use Rattle.ledger.specs.Tells.{read2}
 
 -- what stands at the front of the bytes: the call of a whole record of so many bytes; a record that is cut, or no byte at all;

@@ -3,7 +3,7 @@ use Prim.Native.Nat.{ℕ}
 use Rattle.method.specs.Grounds.{Outcome}
 use Rattle.ledger.specs.Answers.{Finding}
 use Rattle.ledger.specs.Book.{Book, post, turn, lookUp}
-use Rattle.ledger.specs.Calls.{lookAt, pageInto, Call, postOf, turnTo, asks, after}
+use Rattle.ledger.specs.Calls.{lookAt, pageInto, postOf, turnTo, asks, after}
 use Rattle.journal.specs.Journal.{Front, whole, cut, unknown}
 
 -- a look-up with its year; or why there is no call

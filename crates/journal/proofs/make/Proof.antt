@@ -1,6 +1,4 @@
 -- By the kind byte.
-use native.Mathlib.Omega.{arith}
-use denote.Ref.{now}
 use Rattle.journal.proofs.Making.{at-end, at-post, at-turn, at-look, at-unknown}
 use borrow.Author.Needs.{needs}
 use Rattle.journal.proofs.make.Statement.{statement}

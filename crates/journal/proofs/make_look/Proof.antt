@@ -1,6 +1,5 @@
 -- The record is cut, or the book is looked up.
 use denote.Ref.{now}
-use Rattle.ledger.specs.Calls.{lookAt, asks}
 use Rattle.journal.proofs.Making.{record-cut, look-made}
 use borrow.Author.Needs.{needs}
 use Rattle.journal.proofs.make_look.Statement.{statement}

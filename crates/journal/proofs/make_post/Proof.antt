@@ -1,8 +1,16 @@
 -- Without a frame the sheet has its 109 bytes; with one, as many as its length says.
 use mathlib.Core.Path.{_≡_, refl}
+use mathlib.Core.Bool.{true}
+use mathlib.Core.List.{List}
+use Prim.Native.Nat.{ℕ, _+_}
 use native.Mathlib.Nat.{add-sub-cancel-left}
 use native.Mathlib.Omega.{arith}
+use denote.Ref.{now}
+use Rattle.ledger.specs.Tells.{read2}
+use Rattle.book.specs.Views.{asBook}
 use Rattle.book.proofs.Booking.{so, not-so}
+use Rattle.journal.specs.Journal.{postBetween, postFront}
+use Rattle.journal.specs.Made.{MakesFront}
 use Rattle.journal.proofs.Making.{record-cut}
 use borrow.Author.Needs.{needs}
 use Rattle.journal.proofs.make_post.Statement.{statement}
@@ -40,13 +48,19 @@ add-post-part c = search needs
 post-part-requires-2 : tie.Need-post-part-requires-2
 post-part-requires-2 c κs = search needs
 
+-- the sheet after its length is the definition's
+framed-sheet : (s : List ℕ) (n : ℕ) → n ≡ read2 s 1 → postBetween s 3 (3 + n) ≡ postFront true s
+framed-sheet s n length = rw (add-sub-cancel-left, length) refl
+
 returns-3 : tie.Need-returns-3
 returns-3 c =
     let at-length = c .before in
     let at-room = at-length .before .before .before in
     let at-frame = at-room .before in
-    let framed = so (at-frame .before .before .args .framed) (at-frame .if1 .left) in
-    rw framed (rw (add-sub-cancel-left, at-length .two-bytes .ensures .0) at (c .post-part2 .ensures))
+    let a = at-frame .before .before .args in
+    let s = now (a .rest) in
+    let posted : MakesFront (asBook (a .book)) s (postBetween s 3 (3 + at-length .two-bytes .result)) (c .post-part2 .result) = c .post-part2 .ensures in
+    rw (so (a .framed) (at-frame .if1 .left), ← framed-sheet s (at-length .two-bytes .result) (at-length .two-bytes .ensures .0)) posted
 
 pub make-post-spec : {M : Type 1} → statement M
 make-post-spec =

@@ -1,5 +1,7 @@
 -- The record is cut, or the month is turned to.
+use mathlib.Core.Path.{_≡_}
 use denote.Ref.{now}
+use Rattle.ledger.specs.Tells.{read2}
 use Rattle.book.specs.Views.{asBook}
 use Rattle.journal.proofs.Making.{record-cut, turn-made}
 use borrow.Author.Needs.{needs}
@@ -34,7 +36,8 @@ returns-2 c =
     let at-room = at-month .before .before .before in
     let a = at-room .before .before .args in
     let e = at-turn .turn .ensures in
-    rw (← at-month .two-bytes .ensures .0)
+    let month : at-month .two-bytes .result ≡ read2 (now (a .rest)) 1 = at-month .two-bytes .ensures .0 in
+    rw (← month)
     (turn-made (asBook (a .book)) (now (a .rest)) 3 (at-room .if1 .left) (c .no-finding .result) (c .no-finding .ensures) (at-turn .turn .result)
     (at-month .two-bytes .result)
     (e .0)
