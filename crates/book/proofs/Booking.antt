@@ -4,11 +4,11 @@ use mathlib.Core.Bool.{Bool, true, false, not}
 use mathlib.Core.List.{List}
 use Prim.Native.Nat.{ℕ, _≤_, _<_}
 use borrow.Author.Tests.{le-leb, lt-leb}
-use Rattle.method.specs.Grounds.{Ground, afterToldMonth, beforeStandingCurve, monthAboveLast, monthBeforeTold, Outcome, refused, done}
+use Rattle.method.specs.Grounds.{Ground, afterToldMonth, beforeStandingCurve, monthAboveLast, monthBeforeTold, refused, done}
 use Rattle.method.specs.Sheet.{Numbers, readSheet}
 use Rattle.method.specs.Curve.{Curve, curveOf}
 use Rattle.ledger.specs.Book as ledger
-use Rattle.ledger.specs.Book.{Standing, none, some, Booked, notBefore, postOutcome, post, turnOutcome, withTold, turn}
+use Rattle.ledger.specs.Book.{none, some, Booked, notBefore, postOutcome, post, turnOutcome, withTold, turn}
 use Rattle.grounds.specs.declared.Ground as grounds
 use Rattle.grounds.specs.declared.Verdict.{Verdict}
 use Rattle.grounds.specs.declared.Verdict.the-variants.{Refused}

@@ -2,7 +2,6 @@
 use mathlib.Core.Bool.{Bool, true, false}
 use mathlib.Core.List.{List}
 use Prim.Native.Nat.{ℕ}
-use Rattle.method.specs.Grounds.{Outcome}
 use Rattle.ledger.specs.Answers as answer
 use Rattle.ledger.specs.Answers.{finding}
 use Rattle.ledger.specs.Book as ledger

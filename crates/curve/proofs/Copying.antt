@@ -1,12 +1,12 @@
 -- An array whose first entries a loop copies from another.
-use mathlib.Core.Path.{_≡_, refl, ap, sym, _∙_}
+use mathlib.Core.Path.{_≡_}
 use mathlib.Core.List.{List, _++_}
 use Prim.Native.Nat.{ℕ, _+_, _≤_, _<_}
 use native.Mathlib.Nat.{zero-add}
 use native.Mathlib.Numerals.{add-one}
 use native.Mathlib.Omega.{arith}
 use lib.ListN.{length, take, drop, getD, set}
-use lib.Seq.{paste, paste-suc}
+use lib.Seq.{paste-suc}
 
 -- a is d, with i entries from s
 pub record Copied (d s a : List ℕ) (n i : ℕ) : Type 0 where

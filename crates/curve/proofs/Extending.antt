@@ -1,19 +1,19 @@
 -- From the quotes to the arrays of all years.
-use mathlib.Core.Path.{_≡_, refl, ap, sym, subst, subst⁻¹, _∙_}
-use mathlib.Core.List.{List, _++_}
-use Prim.Native.Nat.{ℕ, _+_, _≤_, _<_}
+use mathlib.Core.Path.{_≡_, sym, subst⁻¹, _∙_}
+use mathlib.Core.List.{List}
+use Prim.Native.Nat.{ℕ, _+_, _<_}
 use native.Mathlib.Omega.{arith}
 use lib.ListN.{length, take, drop, getD, replicate, List·getD-append}
 use lib.Seq.{take-all, take-at, length-take-le, getD-take, getD-drop}
 use lib.Signed.{_≤ℤ_}
-use Rattle.method.specs.Units.{Pair, pair, pairsOf, SignedPair}
+use Rattle.method.specs.Units.{pair, pairsOf, SignedPair}
 use Rattle.method.specs.Sheet.{Numbers}
-use Rattle.method.specs.Quotes.{Bootstrap, lastYear}
+use Rattle.method.specs.Quotes.{lastYear}
 use Rattle.method.specs.Series.{ultimateForward}
 use Rattle.method.specs.Table.{table}
 use Rattle.method.specs.Extrapolation.{llfr, extrapolate, κPairs}
 use Rattle.method.specs.Curve.{smoothingYear, gapForwards}
-use Rattle.method.specs.Ranges.{forwardBound, Factor, YearlyFactor}
+use Rattle.method.specs.Ranges.{forwardBound, YearlyFactor}
 use Rattle.method.proofs.QuotesBounds.{bootstrap-bounded, bootstrap-length}
 use Rattle.method.proofs.Zips.{zip-take, zip-drop, pairs-last, pairs-each}
 use Rattle.rounding.specs.Pairs.{asSignedPair, SizeAtMost}

@@ -1,12 +1,11 @@
 -- What `curveOf` comes to, test by test, with the years in two arrays.
-use mathlib.Core.Path.{_≡_, refl, ap, sym, _∙_}
-use mathlib.Core.List.{List, _++_, map}
-use Prim.Native.Nat.{ℕ, _≤_}
-use lib.Dec.{eqb}
+use mathlib.Core.Path.{_≡_, refl}
+use mathlib.Core.List.{List}
+use Prim.Native.Nat.{ℕ}
 use lib.ListN.{length, take, drop, take-append-drop}
 use borrow.Author.Tests.{eq-eqb, ne-eqb}
-use Rattle.method.specs.Units.{Pair, pair, pairsOf}
-use Rattle.method.specs.Grounds.{Ground, bandTooWide, Outcome, refused, done, _>>=_, demand}
+use Rattle.method.specs.Units.{pair, pairsOf}
+use Rattle.method.specs.Grounds.{Ground, bandTooWide, refused, done, _>>=_}
 use Rattle.method.specs.Sheet.{Numbers, maturities}
 use Rattle.method.specs.Quotes.{Bootstrap, bootstrap, quotesOf}
 use Rattle.method.specs.Extrapolation.{firstTooWide}

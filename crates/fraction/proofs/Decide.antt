@@ -1,8 +1,7 @@
 -- The order of closed fractions by one Boolean test that the checker computes.
-use mathlib.Core.Path.{_≡_}
 use mathlib.Core.Bool.{Bool}
-use Prim.Native.Nat.{ℕ, _+_, _*_}
-use lib.Dec.{T, leb, ltb, eqb, leb→le, le→leb, ltb→lt, eqb→eq}
+use Prim.Native.Nat.{_+_, _*_}
+use lib.Dec.{T, ltb, eqb, leb→le, le→leb, ltb→lt, eqb→eq}
 use Rattle.fraction.specs.Fraction.{ℚ, _≈_, _≤ℚ_, _<ℚ_, leℚ, natℚ, intℚ, over, recip, _+ℚ_, negℚ, _*ℚ_, powℚ, sumℚ}
 
 abbrev pub ltℚ : ℚ → ℚ → Bool

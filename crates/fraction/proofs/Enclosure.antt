@@ -1,19 +1,18 @@
 -- Enclosure, step by step: where the arguments are enclosed by pairs, the rounded pair encloses the exact result.
 -- One law for each shape of step; every divisor, weight and multiplier is any number.
-use mathlib.Core.Path.{_≡_, refl, subst, subst₂}
+use mathlib.Core.Path.{subst}
 use mathlib.Core.List.{List, [], _∷_}
 use mathlib.Core.Logic.{_⊎_, inl, inr}
-use Prim.Native.Nat.{ℕ, zero, suc, _+_, _*_, _/_, _≤_, _<_}
-use native.Mathlib.Omega.{arith}
-use lib.IntN.{ℤ, pos, negsuc, negℤ, _+ℤ_, _-ℤ_, _*ℤ_}
+use Prim.Native.Nat.{ℕ, _*_, _/_, _<_}
+use lib.IntN.{ℤ, pos, negℤ, _+ℤ_, _-ℤ_, _*ℤ_}
 use lib.Signed.{_≤ℤ_}
 use Rattle.fraction.specs.Fraction.{ℚ, _≈_, _≤ℚ_, NonNegative, NonPositive, Positive, natℚ, intℚ, negℚ, _+ℚ_, _-ℚ_, _*ℚ_, _÷_}
 use Rattle.fraction.specs.Rounding.{floor, ceiling, ceilDiv, Product, quotient, weighted, wholeSum, exact, roundedDown, roundedUp, Encloses}
-use Rattle.fraction.proofs.Order.{≤ℚ-trans, ≤ℚ-refl, ≤ℚ-≈-trans, ≈-≤ℚ-trans, ≈→≤, ≈→≥, ≈-refl, ≈-sym, ≈-trans, sign, nonNegative-up, positive-up}
+use Rattle.fraction.proofs.Order.{≤ℚ-trans, ≤ℚ-refl, ≤ℚ-≈-trans, ≈-≤ℚ-trans, ≈→≥, ≈-sym, sign, nonNegative-up, positive-up}
 use Rattle.fraction.proofs.Sum.{+ℚ-mono, +ℚ-mono-right, negℚ-anti}
-use Rattle.fraction.proofs.Product.{*ℚ-mono, *ℚ-mono-left, *ℚ-mono-right, *ℚ-anti-left, *ℚ-anti-right, *ℚ-cong-left, *ℚ-comm}
-use Rattle.fraction.proofs.Integer.{natℚ-nonNegative, natℚ-positive, natℚ-mono, intℚ-pos, intℚ-mono, intℚ-reflects, intℚ-neg, intℚ-+, intℚ-*}
-use Rattle.fraction.proofs.Quotient.{÷-mono-left, ÷-mono, ÷-cong-left}
+use Rattle.fraction.proofs.Product.{*ℚ-mono, *ℚ-mono-right, *ℚ-anti-right, *ℚ-cong-left}
+use Rattle.fraction.proofs.Integer.{natℚ-nonNegative, natℚ-positive, intℚ-pos, intℚ-mono, intℚ-reflects, intℚ-neg, intℚ-+, intℚ-*}
+use Rattle.fraction.proofs.Quotient.{÷-mono-left, ÷-mono}
 use Rattle.fraction.proofs.Floor.{ceiling-pos}
 use Rattle.fraction.proofs.Rounding.{rounding, wholeSum-exact}
 

@@ -1,7 +1,7 @@
 -- Worked examples by computation: a wrong definition shows here in numbers.
 use mathlib.Core.Path.{_≡_, refl}
-use lib.IntN.{ℤ, pos, negsuc}
-use Rattle.fraction.specs.Fraction.{_≈_, _≤ℚ_, _<ℚ_, natℚ, intℚ, _+ℚ_, _-ℚ_, _*ℚ_, _÷_, powℚ, sumℚ}
+use lib.IntN.{pos, negsuc}
+use Rattle.fraction.specs.Fraction.{_≈_, _≤ℚ_, _<ℚ_, natℚ, intℚ, _÷_, powℚ, sumℚ}
 use Rattle.fraction.specs.Rounding.{floor, ceiling, ceilDiv}
 use Rattle.fraction.proofs.Decide.{computes, leℚ→≤, ltℚ→<, eqℚ→≈}
 

@@ -1,14 +1,14 @@
 -- Floor and ceiling of an integer over a positive natural: each is the nearest integer on its side.
 use mathlib.Core.Path.{_≡_, refl, ap, sym, _∙_}
-use Prim.Native.Nat.{ℕ, zero, suc, _+_, _*_, _-_, _/_, _≤_, _<_}
+use Prim.Native.Nat.{ℕ, zero, suc, _+_, _-_, _/_, _<_}
 use native.Mathlib.Nat.{div-mul-le-self, lt-div-mul-add, zero-div, add-div-right, div-eq-of-lt}
 use native.Mathlib.Omega.{arith}
-use lib.Dec.{T, le→leb}
-use lib.IntN.{ℤ, pos, negsuc, negℤ, _+ℤ_}
-use lib.Signed.{leZ, _≤ℤ_}
-use Rattle.fraction.specs.Fraction.{ℚ, _≈_, _≤ℚ_, _<ℚ_, natℚ, intℚ, negℚ, _+ℚ_, _-ℚ_, _*ℚ_, _÷_}
+use lib.Dec.{le→leb}
+use lib.IntN.{ℤ, pos, negsuc, negℤ}
+use lib.Signed.{_≤ℤ_}
+use Rattle.fraction.specs.Fraction.{_≈_, _≤ℚ_, _<ℚ_, natℚ, intℚ, negℚ, _+ℚ_, _-ℚ_, _*ℚ_, _÷_}
 use Rattle.fraction.specs.Rounding.{floor, ceiling, ceilDiv}
-use Rattle.fraction.proofs.Order.{≤ℚ-trans, ≤ℚ-<ℚ-trans, <ℚ-≤ℚ-trans, ≤ℚ-≈-trans, ≈-≤ℚ-trans, ≈→≤, ≈→≥, ≈-sym, ≈-trans, ≈-refl}
+use Rattle.fraction.proofs.Order.{≤ℚ-<ℚ-trans, <ℚ-≤ℚ-trans, ≤ℚ-≈-trans, ≈-≤ℚ-trans, ≈→≤, ≈→≥, ≈-sym, ≈-trans, ≈-refl}
 use Rattle.fraction.proofs.Sum.{negℚ-anti, negℚ-strict, negℚ-cong, negℚ-negℚ, negℚ-+ℚ, +ℚ-cong}
 use Rattle.fraction.proofs.Product.{negℚ-*ℚ, *ℚ-cong-left}
 use Rattle.fraction.proofs.Integer.{natℚ-positive, intℚ-neg}

@@ -3,10 +3,10 @@ use mathlib.Core.Path.{_≡_, refl}
 use mathlib.Core.Bool.{Bool, true, false, not, cond}
 use Prim.Native.Nat.{ℕ, zero, suc, _+_, _*_, _-_, _≤_, _<_}
 use native.Mathlib.Omega.{arith}
-use lib.Dec.{T, ltb, leb, ltb→lt, nltb→le, leb→le, le→leb, lt→ltb}
+use lib.Dec.{T, ltb, ltb→lt, nltb→le, leb→le, le→leb, lt→ltb}
 use lib.IntN.{ℤ, pos, negsuc, negℤ, subℕ, _+ℤ_, _*ℤ_, _-ℤ_}
 use lib.Signed.{leZ, ltZ, _≤ℤ_, _<ℤ_}
-use Rattle.fraction.specs.Fraction.{ℚ, _≈_, _≤ℚ_, _<ℚ_, NonNegative, Positive, natℚ, posPart, negPart, intℚ, negℚ, _+ℚ_, _-ℚ_, _*ℚ_}
+use Rattle.fraction.specs.Fraction.{_≈_, _≤ℚ_, _<ℚ_, NonNegative, Positive, natℚ, posPart, negPart, intℚ, negℚ, _+ℚ_, _-ℚ_, _*ℚ_}
 use Rattle.fraction.proofs.Order.{≈-refl, ≈-trans}
 use Rattle.fraction.proofs.Sum.{+ℚ-cong}
 

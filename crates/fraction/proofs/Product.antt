@@ -4,7 +4,7 @@ use mathlib.Core.Logic.{_⊎_, inl, inr}
 use Prim.Native.Nat.{ℕ, _+_, _*_, _≤_, _<_}
 use native.Mathlib.Nat.{mul-le-mul-right, mul-lt-mul-of-pos-right, mul-pos, le-dest}
 use native.Mathlib.Omega.{arith}
-use Rattle.fraction.specs.Fraction.{ℚ, _≈_, _≤ℚ_, _<ℚ_, NonNegative, NonPositive, Positive, natℚ, negℚ, _+ℚ_, _-ℚ_, _*ℚ_}
+use Rattle.fraction.specs.Fraction.{ℚ, _≈_, _≤ℚ_, _<ℚ_, NonNegative, NonPositive, Positive, natℚ, negℚ, _+ℚ_, _*ℚ_}
 use Rattle.fraction.proofs.Order.{≤ℚ-trans, ≤ℚ-total, ≈→≤, ≈→≥, ≈-sym, ≈-trans, ≈-expand, <ℚ-irrefl, <ℚ-not-≤ℚ}
 use Rattle.fraction.proofs.Order.{not-≤ℚ→<ℚ, <ℚ-≤ℚ-trans, ≤ℚ-<ℚ-trans, ≤ℚ-≈-trans, ≈-≤ℚ-trans, nonNegative→≤}
 use Rattle.fraction.proofs.Order.{≤→nonNegative, positive→<, <→positive, neg-nonPositive, nonPositive→≤, sign}

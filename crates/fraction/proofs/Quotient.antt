@@ -1,9 +1,8 @@
 -- Reciprocals of positives and quotients by them.
-use mathlib.Core.Path.{_≡_, refl, subst, sym}
-use Prim.Native.Nat.{ℕ, zero, suc, _+_, _*_, _-_, _≤_, _<_}
-use native.Mathlib.Nat.{zero-lt-suc, sub-pos-iff-lt}
+use mathlib.Core.Path.{_≡_}
+use Prim.Native.Nat.{ℕ, zero, suc, _+_, _*_, _-_, _<_}
 use native.Mathlib.Omega.{arith}
-use Rattle.fraction.specs.Fraction.{ℚ, _≈_, _≤ℚ_, _<ℚ_, NonNegative, Positive, natℚ, over, recip, _+ℚ_, _-ℚ_, negℚ, _*ℚ_, _÷_}
+use Rattle.fraction.specs.Fraction.{ℚ, _≈_, _≤ℚ_, _<ℚ_, NonNegative, Positive, natℚ, over, recip, _*ℚ_, _÷_}
 use Rattle.fraction.proofs.Order.{≤ℚ-trans, ≈→≤, ≈→≥, ≈-sym, ≈-trans, ≤ℚ-≈-trans, ≈-≤ℚ-trans}
 use Rattle.fraction.proofs.Order.{≤ℚ-<ℚ-trans, <ℚ-≤ℚ-trans, ≤ℚ-antisym, positive-up}
 use Rattle.fraction.proofs.Integer.{natℚ-positive}

@@ -5,11 +5,11 @@ use Prim.Native.Nat.{ℕ, _+_, _*_}
 use native.Mathlib.Nat.{zero-lt-suc}
 use native.Mathlib.Omega.{arith}
 use lib.Dec.{T}
-use Rattle.fraction.specs.Fraction.{ℚ, _≈_, natℚ, _+ℚ_, _-ℚ_, negℚ, _*ℚ_}
+use Rattle.fraction.specs.Fraction.{ℚ, _≈_, natℚ, _+ℚ_, negℚ, _*ℚ_}
 use Rattle.fraction.proofs.Order.{≈-refl, ≈-sym, ≈-trans}
 use Rattle.fraction.proofs.Sum.{+ℚ-cong, +ℚ-comm, +ℚ-assoc}
 use Rattle.fraction.proofs.Product.{*ℚ-cong, *ℚ-comm, *ℚ-assoc, *ℚ-+ℚ}
-use Rattle.fraction.proofs.Ring.{Expression, var, con, ⊖, _⊕_, _⊗_, Laws, eval, solve, identical}
+use Rattle.fraction.proofs.Ring.{Expression, var, con, _⊕_, _⊗_, Laws, eval, solve, identical}
 
 -- p - m
 unfoldable pub literal : ℕ → ℕ → ℚ

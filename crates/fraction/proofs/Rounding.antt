@@ -2,8 +2,8 @@
 use mathlib.Core.List.{List, [], _∷_}
 use Prim.Native.Nat.{ℕ, _<_}
 use lib.Dec.{lit<}
-use lib.IntN.{ℤ, pos, _+ℤ_, _*ℤ_}
-use Rattle.fraction.specs.Fraction.{ℚ, _≈_, _≤ℚ_, natℚ, intℚ, _+ℚ_, _*ℚ_, _÷_}
+use lib.IntN.{ℤ, _*ℤ_}
+use Rattle.fraction.specs.Fraction.{ℚ, _≈_, natℚ, intℚ, _÷_}
 use Rattle.fraction.specs.Rounding.{U, floor, ceiling, Product, Operation, sum, scaled, quotient, weighted}
 use Rattle.fraction.specs.Rounding.{sumOfProducts, wholeSum, exact, roundedDown, roundedUp, Encloses}
 use Rattle.fraction.proofs.Order.{≤ℚ-≈-trans, ≈-≤ℚ-trans, ≈→≤, ≈→≥, ≈-refl, ≈-sym, ≈-trans}

@@ -2,8 +2,7 @@
 -- fraction.
 use mathlib.Core.Bool.{Bool, true, false}
 use mathlib.Core.List.{List, [], _∷_}
-use Prim.Native.Nat.{ℕ, suc, _+_, _*_, _-_, _/_, _<_}
-use lib.Dec.{lit<}
+use Prim.Native.Nat.{ℕ, _+_, _-_, _/_, _<_}
 use lib.IntN.{ℤ, pos, negsuc, negℤ, _+ℤ_, _*ℤ_}
 use Rattle.fraction.specs.Fraction.{ℚ, _≤ℚ_, natℚ, intℚ, _+ℚ_, _*ℚ_, _÷_}
 

@@ -3,8 +3,8 @@ use mathlib.Core.Path.{_≡_, sym, ap, _∙_}
 use mathlib.Core.Bool.{Bool, true, false, not}
 use Prim.Native.Nat.{ℕ, zero, suc, _-_, _≤_, _<_}
 use native.Mathlib.Omega.{arith}
-use Rattle.method.specs.Units.{Pair, pair, endOf}
-use Rattle.method.specs.Quotes.{Gap, halve}
+use Rattle.method.specs.Units.{pair, endOf}
+use Rattle.method.specs.Quotes.{Gap}
 use Rattle.method.proofs.HalvingLaws.{middle, halve-ends, halve-rises, halve-falls}
 use Rattle.gap.specs.Gaps.{risesBy, Halved}
 

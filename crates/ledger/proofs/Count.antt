@@ -1,14 +1,14 @@
 -- The book that a count stands for, and that each call moves both alike.
 use mathlib.Core.Path.{_≡_, refl, ap, sym, subst, _∙_}
-use mathlib.Core.Bool.{Bool, true, false, cond, _&&_}
+use mathlib.Core.Bool.{Bool, true, false, _&&_}
 use mathlib.Core.List.{List, [], _∷_}
 use Prim.Native.Nat.{ℕ, _≤_}
 use native.Mathlib.Omega.{arith}
-use borrow.Author.Tests.{leb-true, leb-false}
+use borrow.Author.Tests.{leb-true}
 use lib.Dec.{T, leb}
 use lib.ListN.{length}
-use Rattle.method.specs.Grounds.{Ground, afterToldMonth, beforeStandingCurve, Outcome, refused, done, _>>=_, demand}
-use Rattle.method.specs.Sheet.{Numbers, readSheet, sheetNumbers}
+use Rattle.method.specs.Grounds.{afterToldMonth, beforeStandingCurve, Outcome, refused, done, _>>=_, demand}
+use Rattle.method.specs.Sheet.{Numbers, readSheet}
 use Rattle.method.specs.Curve.{Curve, curveOf, answer}
 use Rattle.method.proofs.Enclosure.{enclosure}
 use Rattle.method.proofs.Reading.{read-passes}

@@ -1,10 +1,10 @@
 -- A day of calls by computation: a wrong definition, or a wrong count, shows here in numbers. And the old box's answer of that day,
 -- February's curve under a March heading, is refused by demand 3 itself.
-use mathlib.Core.Path.{_≡_, refl, ap, sym, _∙_}
+use mathlib.Core.Path.{_≡_, refl, ap}
 use mathlib.Core.List.{List, [], _∷_, _++_}
 use Prim.Native.Nat.{ℕ}
 use native.Mathlib.Omega.{arith}
-use lib.ListN.{replicate, take, drop, length}
+use lib.ListN.{replicate, take, drop}
 use Rattle.method.specs.Bytes.{bytes2, bytes4}
 use Rattle.method.specs.Grounds.{afterToldMonth, beforeStandingCurve, monthBeforeTold, noCurve, bufferTooShort, Outcome, refused, done}
 use Rattle.method.specs.Sheet.{maturities, volumeMaturities}
@@ -14,7 +14,7 @@ use Rattle.ledger.specs.Answers.{Finding, finding}
 use Rattle.ledger.specs.Page.{yearRecords, pageBytes}
 use Rattle.ledger.specs.Book.{fresh, post, postOutcome, turn, turnOutcome, lookUp, page, pageOutcome}
 use Rattle.ledger.specs.Calls.{Call, postOf, turnTo, lookAt, pageInto, asks, run}
-use Rattle.ledger.specs.Count.{posted, count, acceptsSheet, acceptsMonth, typed, offsets}
+use Rattle.ledger.specs.Count.{posted, count, acceptsSheet, acceptsMonth}
 use Rattle.ledger.specs.Tells.{bandOf, LookTells, PageTells}
 
 -- a sheet with all rates alike, volumes 1 and ultimate rate 0

@@ -1,15 +1,15 @@
 -- A page's bytes, read back: each record stands at its place, and the numbers that fit are those that were written.
-use mathlib.Core.Path.{_≡_, refl, ap, sym, subst, _∙_}
-use mathlib.Core.List.{List, [], _∷_, _++_, append-assoc}
+use mathlib.Core.Path.{_≡_, refl, ap, sym, _∙_}
+use mathlib.Core.List.{List, [], _∷_, _++_}
 use Prim.Native.Nat.{ℕ, zero, suc, _+_, _*_, _-_, _/_, _%_, _≤_, _<_}
 use native.Mathlib.Nat.{suc-inj, add-zero, zero-add, le-of-suc-le-suc, div-div-eq-div-mul, div-add-mod'}
 use native.Mathlib.Omega.{arith}
-use lib.ListN.{length, getD, drop, length-append, length-drop, List·getD-append}
-use lib.Seq.{getD-append-add, drop-at}
-use Rattle.method.specs.Bytes.{bytes2, bytes4}
+use lib.ListN.{length, getD, length-append, List·getD-append}
+use lib.Seq.{getD-append-add}
+use Rattle.method.specs.Bytes.{bytes4}
 use Rattle.method.specs.Units.{pair}
 use Rattle.ledger.specs.Page.{pageHead, yearRecord, yearRecords, pageBytes}
-use Rattle.ledger.specs.Tells.{read2, read4, PageRead}
+use Rattle.ledger.specs.Tells.{read4, PageRead}
 
 -- ---- the record of a year
 

@@ -8,7 +8,7 @@ use borrow.Author.Tests.{leb-true, le-leb}
 use lib.Dec.{leb}
 use Rattle.method.specs.Grounds.{afterToldMonth, beforeStandingCurve, Outcome, refused, done}
 use Rattle.method.specs.Sheet.{readSheet}
-use Rattle.method.specs.Curve.{Curve, curveOf}
+use Rattle.method.specs.Curve.{Curve}
 use Rattle.method.proofs.Outcome.{bind-done, demand-done}
 use Rattle.ledger.specs.Book.{Standing, none, some, Book, booked, notBefore, postOutcome, withCurve, post}
 use Rattle.ledger.specs.Demands.{holding, Accepted, Demand2}

@@ -6,7 +6,7 @@ use lib.Dec.{leb}
 use lib.ListN.{length, drop}
 use Rattle.method.specs.Grounds.{afterToldMonth, beforeStandingCurve, monthAboveLast, monthBeforeTold, yearOutside, noCurve, bufferTooShort}
 use Rattle.method.specs.Grounds.{Outcome, refused, done, _>>=_, demand}
-use Rattle.method.specs.Sheet.{Numbers, readSheet}
+use Rattle.method.specs.Sheet.{readSheet}
 use Rattle.method.specs.Curve.{Curve, curveOf}
 use Rattle.method.specs.Enclosure.{lowOf, highOf}
 use Rattle.ledger.specs.Answers.{Finding, finding}

@@ -7,7 +7,7 @@ use lib.IntN.{ℤ, pos, _-ℤ_}
 use lib.ListN.{getD}
 use Rattle.method.specs.Grounds.{Outcome, refused, done}
 use Rattle.method.specs.Sheet.{Numbers}
-use Rattle.method.specs.Curve.{Curve, answer}
+use Rattle.method.specs.Curve.{answer}
 use Rattle.ledger.specs.Calls.{Call, postOf, turnTo, asks}
 
 -- ---- a sheet's numbers by the offsets of their bytes, the high byte first

@@ -12,7 +12,7 @@ use Rattle.method.specs.Sheet.{Numbers, readSheet, sheetNumbers, slots, firstFa
 use Rattle.method.specs.Curve.{Curve, curveOf}
 use Rattle.method.specs.Enclosure.{lowOf, highOf}
 use Rattle.ledger.specs.Answers.{Finding, finding}
-use Rattle.ledger.specs.Book.{Standing, none, some, Book, Paged, fresh, post, turn, lookUp, page}
+use Rattle.ledger.specs.Book.{Standing, none, some, Book, fresh, post, turn, lookUp, page}
 use Rattle.ledger.specs.Calls.{Question, Call, postOf, turnTo, asks, run, answered}
 use Rattle.ledger.specs.Count.{LastSheet, unposted, posted, count}
 use Rattle.ledger.specs.Tells.{PageWritten, Tells}

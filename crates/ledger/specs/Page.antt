@@ -1,6 +1,6 @@
 -- SPECIFICATION 7: the 1,505 bytes of a page.
 use mathlib.Core.List.{List, [], _∷_, _++_}
-use Prim.Native.Nat.{ℕ, suc, _+_}
+use Prim.Native.Nat.{ℕ, _+_}
 use Rattle.method.specs.Bytes.{bytes2, bytes4}
 
 -- hex 48, month, age

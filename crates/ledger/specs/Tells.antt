@@ -14,7 +14,7 @@ use Rattle.method.specs.True.{trueCurve, trueFactor}
 use Rattle.ledger.specs.Answers.{Finding, finding}
 use Rattle.ledger.specs.Book.{Paged}
 use Rattle.ledger.specs.Calls.{Question, lookAt, pageInto, AnswerTo}
-use Rattle.ledger.specs.Count.{LastSheet, unposted, posted, Count, monthOf, limitOf, typed}
+use Rattle.ledger.specs.Count.{unposted, posted, Count, monthOf, limitOf, typed}
 
 -- ---- a year's band
 

@@ -1,21 +1,21 @@
 -- Single crossing: where the exact swap is at par or above at a yearly factor, it is above par at every larger one.
 -- For any rate and any gap length.
-use mathlib.Core.Path.{_≡_, refl, subst}
-use mathlib.Core.List.{List, [], _∷_}
-use Prim.Native.Nat.{ℕ, zero, suc, _+_, _≤_, _<_}
+use mathlib.Core.Path.{subst}
+use mathlib.Core.List.{[], _∷_}
+use Prim.Native.Nat.{ℕ, suc, _+_, _≤_}
 use native.Mathlib.Nat.{le-dest}
 use native.Mathlib.Omega.{arith}
 use lib.IntN.{ℤ, pos, negsuc}
 use Rattle.fraction.specs.Fraction.{ℚ, _≈_, _≤ℚ_, _<ℚ_, NonNegative, Positive, natℚ, intℚ, negℚ, _+ℚ_, _*ℚ_, _÷_, powℚ, sumℚ}
 use Rattle.fraction.proofs.Order.{≤ℚ-trans, ≤ℚ-refl, ≤ℚ-≈-trans, ≈-≤ℚ-trans, ≈→≤, ≈→≥, ≈-refl, ≈-sym, ≈-trans}
 use Rattle.fraction.proofs.Order.{<ℚ→≤ℚ, <ℚ-≤ℚ-trans, ≤ℚ-<ℚ-trans, positive→nonNegative, nonNegative-up}
-use Rattle.fraction.proofs.Sum.{+ℚ-mono, +ℚ-mono-left, +ℚ-cong, +ℚ-strict, +ℚ-strict-left, +ℚ-strict-right, +ℚ-nonNegative, +ℚ-positive, negℚ-cong}
+use Rattle.fraction.proofs.Sum.{+ℚ-mono, +ℚ-mono-left, +ℚ-cong, +ℚ-strict, +ℚ-strict-left, +ℚ-strict-right, +ℚ-positive, negℚ-cong}
 use Rattle.fraction.proofs.Product.{*ℚ-comm, *ℚ-cong-left, *ℚ-mono-left, *ℚ-mono-right, *ℚ-strict-left}
 use Rattle.fraction.proofs.Product.{*ℚ-strict-right, *ℚ-nonNegative, *ℚ-positive, *ℚ-cancel-<-left}
 use Rattle.fraction.proofs.Integer.{natℚ-nonNegative, natℚ-positive, intℚ-pos, intℚ-neg}
 use Rattle.fraction.proofs.Quotient.{÷-strict-left, ÷-positive}
-use Rattle.fraction.proofs.Power.{powℚ-nonNegative, powℚ-positive, powℚ-mono, powℚ-strict, powℚ-+, sumℚ-mono, sumℚ-scale, sumℚ-nonNegative}
-use Rattle.fraction.proofs.Ring.{Expression, var, con, ⊖, _⊕_, _⊗_}
+use Rattle.fraction.proofs.Power.{powℚ-nonNegative, powℚ-mono, powℚ-strict, powℚ-+, sumℚ-mono, sumℚ-scale}
+use Rattle.fraction.proofs.Ring.{var, con, ⊖, _⊕_, _⊗_}
 use Rattle.fraction.proofs.RingFraction.{ringℚ}
 use Rattle.method.specs.True.{billion, onward, swapValue}
 use Rattle.method.proofs.Par.{parℚ, rate-nonNegative}

@@ -1,16 +1,15 @@
 -- Lists of pairs that enclose lists of fractions, entry by entry.
 use mathlib.Core.Path.{_≡_, refl, ap}
 use mathlib.Core.List.{List, [], _∷_, _++_, map}
-use Prim.Native.Nat.{ℕ, zero, suc, _+_, _≤_, _<_}
+use Prim.Native.Nat.{ℕ, zero, suc, _<_}
 use native.Mathlib.Nat.{le-of-suc-le-suc, not-suc-le-zero}
-use native.Mathlib.Omega.{arith}
-use lib.IntN.{ℤ, pos}
+use lib.IntN.{pos}
 use lib.ListN.{length, take, drop, getD}
-use Rattle.fraction.specs.Fraction.{ℚ, natℚ, _+ℚ_}
+use Rattle.fraction.specs.Fraction.{ℚ}
 use Rattle.fraction.specs.Rounding.{Encloses}
 use Rattle.fraction.proofs.Enclosure.{encloses-exact, encloses-≈, encloses-+}
 use Rattle.fraction.proofs.Integer.{intℚ-pos}
-use Rattle.method.specs.Units.{Pair, pair}
+use Rattle.method.specs.Units.{Pair}
 use Rattle.method.specs.Sheet.{total}
 use Rattle.method.specs.True.{sumOf}
 

@@ -1,29 +1,29 @@
 -- THE ENCLOSURE: an accepted sheet's bands hold the true factor of every order in every year, within the sheet's limit.
-use mathlib.Core.Path.{_≡_, refl, ap, sym, subst, _∙_}
+use mathlib.Core.Path.{_≡_, refl, ap, sym, _∙_}
 use mathlib.Core.Bool.{Bool, true, false, cond}
 use mathlib.Core.List.{List, [], _∷_, _++_, map}
-use Prim.Native.Nat.{ℕ, zero, suc, _+_, _*_, _-_, _≤_, _<_, zero-le}
+use Prim.Native.Nat.{ℕ, zero, suc, _+_, _-_, _≤_, _<_, zero-le}
 use native.Mathlib.Nat.{le-of-suc-le-suc}
 use native.Mathlib.Omega.{arith}
 use borrow.Author.Tests.{eqb-true, leb-true}
-use lib.Dec.{leb, eqb, leb→le, T}
-use lib.IntN.{ℤ, pos, natAbs}
+use lib.Dec.{leb, eqb, leb→le}
+use lib.IntN.{ℤ, pos}
 use lib.ListN.{length, take, drop, getD, length-append, length-drop, length-take, length-map}
 use lib.Seq.{getD-drop}
 use lib.Signed.{_≤ℤ_}
-use Rattle.fraction.specs.Fraction.{ℚ, _≤ℚ_, natℚ, negℚ, _+ℚ_, _*ℚ_, _÷_}
-use Rattle.fraction.specs.Rounding.{U, Encloses}
+use Rattle.fraction.specs.Fraction.{ℚ, natℚ}
+use Rattle.fraction.specs.Rounding.{Encloses}
 use Rattle.fraction.proofs.Order.{<ℚ→≤ℚ}
 use Rattle.fraction.proofs.Enclosure.{encloses-ordered, nat-encloses, nat-below, nat-above}
-use Rattle.method.specs.Units.{Pair, pair, SignedPair, signedPair}
-use Rattle.method.specs.Grounds.{Ground, bandTooWide, Outcome, done, _>>=_, demand}
+use Rattle.method.specs.Units.{Pair, pair}
+use Rattle.method.specs.Grounds.{bandTooWide, Outcome, done}
 use Rattle.method.specs.Sheet.{Numbers, readSheet, sheetNumbers, maturities, total}
-use Rattle.method.specs.Quotes.{Bootstrap, bootstrap, quotesOf, lastYear, lowerEnd, upperEnd, highestFactor}
+use Rattle.method.specs.Quotes.{Bootstrap, bootstrap, quotesOf, lastYear, highestFactor}
 use Rattle.method.specs.Series.{gapForward, ultimateForward}
 use Rattle.method.specs.Table.{table}
 use Rattle.method.specs.Extrapolation.{llfr, extrapolate, κPairs, firstTooWide}
 use Rattle.method.specs.Curve.{Curve, smoothingYear, gapForwards, curveOf, answer}
-use Rattle.method.specs.True.{billion, minusLog, convergence, Liquid, liquid, lastFactor, lastLiquidForward, extrapolated, trueCurve, trueFactor}
+use Rattle.method.specs.True.{minusLog, convergence, liquid, lastLiquidForward, trueCurve, trueFactor}
 use Rattle.method.specs.Enclosure.{CurveHolds, lowOf, highOf}
 use Rattle.method.proofs.Outcome.{bind-done, demand-done, done-injective}
 use Rattle.method.proofs.Enclosed.{AllEnclosed, enclosed-append, enclosed-take, enclosed-drop, enclosed-at, enclosed-length}
@@ -34,7 +34,7 @@ use Rattle.method.proofs.Liquid.{LiquidEnclosed, RatesAbove, Rising, la
 use Rattle.method.proofs.Logarithm.{gapForward-encloses, ultimateForward-encloses}
 use Rattle.method.proofs.SeriesBounds.{gapForward-bound, ultimateForward-bound}
 use Rattle.method.proofs.TableRule.{table-rule, table-length, table-below}
-use Rattle.method.proofs.Size.{Bounded, Within}
+use Rattle.method.proofs.Size.{Within}
 use Rattle.method.proofs.Forward.{zeroPair, Weighs, κPairs-weigh, llfr-encloses-at, llfr-bound-at}
 use Rattle.method.proofs.Step.{extrapolate-encloses, extrapolate-length, extrapolate-highs}
 use Rattle.method.specs.Ranges.{Each, Factor, YearlyFactor, RateInRange, NumbersInRange}

@@ -2,7 +2,7 @@
 use mathlib.Core.Path.{_≡_, refl, ap, _∙_}
 use mathlib.Core.Bool.{Bool, true, _&&_}
 use mathlib.Core.List.{List, [], _∷_, _++_, append-assoc}
-use Prim.Native.Nat.{ℕ, zero, suc, _+_, _*_, _-_, _/_, _≤_, _<_, suc-le-suc}
+use Prim.Native.Nat.{ℕ, zero, suc, _+_, _*_, _/_, _≤_, _<_, suc-le-suc}
 use native.Mathlib.Nat.{mul-le-mul, mul-le-mul-right, div-le-of-le-mul, le-div-iff-mul-le}
 use native.Mathlib.Omega.{arith}
 use borrow.Author.Tests.{le-leb, lt-leb}
@@ -12,7 +12,7 @@ use lib.ListN.{length, getD, drop, length-map, drop-of-length-le, List·getD-map
 use lib.Seq.{drop-cons}
 use lib.Signed.{_≤ℤ_}
 use mir.Facts.{ltb-yes, and-yes}
-use Rattle.fraction.specs.Fraction.{ℚ, natℚ, intℚ, _÷_, _*ℚ_}
+use Rattle.fraction.specs.Fraction.{ℚ, natℚ, intℚ, _÷_}
 use Rattle.fraction.specs.Rounding.{U, ceilDiv, Encloses}
 use Rattle.fraction.proofs.Order.{≤ℚ-refl, ≈-sym, ≈-trans}
 use Rattle.fraction.proofs.Product.{*ℚ-comm}

@@ -1,26 +1,25 @@
 -- A gap's yearly factor: the true one of every order is the largest of all multiples at which the exact swap is at most par,
 -- and it lies from the low x to the high x. For any gap that passes ground 9.
-use mathlib.Core.Path.{_≡_, refl, ap, sym, subst, _∙_}
-use mathlib.Core.Bool.{Bool, true, false, cond, not}
+use mathlib.Core.Path.{_≡_, ap, subst}
+use mathlib.Core.Bool.{Bool, true, false}
 use mathlib.Core.Logic.{_⊎_, inl, inr}
-use Prim.Native.Nat.{ℕ, zero, suc, _+_, _*_, _-_, _/_, _^_, _≤_, _<_}
-use native.Mathlib.Nat.{le-refl, le-trans, le-suc-iff, mul-pos, mul-le-mul, mul-le-mul-right, mul-lt-mul-of-pos-right, lt-of-mul-lt-mul-right, one-le-pow}
+use Prim.Native.Nat.{ℕ, zero, suc, _+_, _*_, _^_, _≤_, _<_}
+use native.Mathlib.Nat.{le-suc-iff, one-le-pow}
 use native.Mathlib.Decide.{decLe}
 use native.Mathlib.Omega.{arith}
 use borrow.Author.Tests.{leb-true, le-leb}
-use lib.Dec.{ltb, T}
+use lib.Dec.{T}
 use lib.Pow.{pow-add}
 use lib.IntN.{ℤ, pos}
-use Rattle.fraction.specs.Fraction.{ℚ, _≈_, _≤ℚ_, _<ℚ_, leℚ, NonNegative, Positive, natℚ, intℚ, _+ℚ_, _*ℚ_, _÷_, recip, powℚ, sumℚ}
+use Rattle.fraction.specs.Fraction.{ℚ, _≈_, _≤ℚ_, _<ℚ_, leℚ, natℚ, intℚ, recip}
 use Rattle.fraction.specs.Rounding.{U, Encloses}
-use Rattle.fraction.proofs.Order.{≤ℚ-trans, ≤ℚ-≈-trans, ≈-≤ℚ-trans, ≈-refl, ≈-sym, ≈-trans, ≈→≤, ≈→≥, ≡→≈, ≤ℚ-total, <ℚ-not-≤ℚ, ≤ℚ-<ℚ-trans, <ℚ-≤ℚ-trans}
+use Rattle.fraction.proofs.Order.{≤ℚ-≈-trans, ≈-≤ℚ-trans, ≈-refl, ≈-sym, ≈-trans, ≡→≈, ≤ℚ-total, <ℚ-not-≤ℚ, ≤ℚ-<ℚ-trans}
 use Rattle.fraction.proofs.Sum.{+ℚ-cong}
-use Rattle.fraction.proofs.Product.{*ℚ-assoc, *ℚ-cong-left, *ℚ-cong-right, *ℚ-mono-right, *ℚ-strict-right}
+use Rattle.fraction.proofs.Product.{*ℚ-assoc, *ℚ-cong-right, *ℚ-mono-right, *ℚ-strict-right}
 use Rattle.fraction.proofs.Integer.{natℚ-mono, natℚ-strict, natℚ-*, natℚ-positive, natℚ-nonNegative}
 use Rattle.fraction.proofs.Quotient.{÷-unique, ÷-mono-left, ÷-strict-left, ÷-cong-left}
 use Rattle.fraction.proofs.Power.{powℚ-cong, sumℚ-cong}
 use Rattle.fraction.proofs.Enclosure.{nat-encloses, encloses-nonNegative, encloses-positive}
-use Rattle.method.specs.Units.{Pair, pair}
 use Rattle.method.specs.Quotes.{Gap, lowX, highX, lowerEnd, upperEnd, surelyNotAbove, surelyNotBelow}
 use Rattle.method.specs.True as true
 use Rattle.method.specs.True.{billion, onward, swapValue, multiple, largest, chosen}

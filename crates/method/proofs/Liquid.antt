@@ -1,27 +1,26 @@
 -- The liquid part: the factors of the quotes, and the yearly factors of their gaps, enclose the true ones of every order.
 -- For any list of rising maturities and any rates above -100,000.
-use mathlib.Core.Path.{_≡_, refl, ap, sym, subst, _∙_}
-use mathlib.Core.Bool.{Bool, true, false, cond, _&&_}
-use mathlib.Core.List.{List, [], _∷_, _++_, map, zipWith, append-assoc, append-nil}
-use Prim.Native.Nat.{ℕ, zero, suc, _+_, _*_, _-_, _/_, _≤_, _<_}
-use native.Mathlib.Nat.{le-refl}
+use mathlib.Core.Path.{_≡_, refl, ap, sym, subst}
+use mathlib.Core.Bool.{true, false, cond, _&&_}
+use mathlib.Core.List.{List, [], _∷_, _++_, zipWith, append-assoc, append-nil}
+use Prim.Native.Nat.{ℕ, zero, suc, _-_, _<_}
 use native.Mathlib.Omega.{arith}
 use borrow.Author.Tests.{eqb-true, leb-true}
-use lib.Dec.{leb, eqb, ltb, leb→le, T}
+use lib.Dec.{eqb, leb→le, T}
 use lib.IntN.{ℤ, pos, negsuc, natAbs}
 use lib.ListN.{length, length-append}
 use lib.Signed.{leZ}
 use Rattle.fraction.specs.Fraction.{ℚ, negPart}
-use Rattle.fraction.specs.Rounding.{U, ceilDiv, Encloses}
+use Rattle.fraction.specs.Rounding.{Encloses}
 use Rattle.fraction.proofs.Order.{≤ℚ-refl, ≈-sym}
 use Rattle.fraction.proofs.Enclosure.{encloses-≈, encloses-ordered, nat-encloses}
 use Rattle.method.specs.Units.{Pair, pair, pairsOf}
-use Rattle.method.specs.Grounds.{Ground, Outcome, refused, done, _>>=_, demand, lowBelowOne, highAboveLimit, endFailsTest}
+use Rattle.method.specs.Grounds.{done}
 use Rattle.method.specs.Quotes.{Gap, Bootstrap, annuity, nextYear, quotedYear, insideYears, lastYear, gapAfter, gapYears, parYear, yearsTo}
 use Rattle.method.specs.Quotes.{bootstrapFrom, quotesOf, bootstrap, lowerEnd, upperEnd, highestFactor, surelyNotAbove, surelyNotBelow}
-use Rattle.method.specs.True.{billion, onward, between, sumOf, parFactor, multiple, chosen, lastFactor, Liquid, toMaturity, liquidFrom, liquid}
+use Rattle.method.specs.True.{billion, between, sumOf, parFactor, multiple, chosen, lastFactor, Liquid, toMaturity, liquidFrom, liquid}
 use Rattle.method.proofs.Outcome.{bind-done, done-injective, both-true}
-use Rattle.method.proofs.Enclosed.{AllEnclosed, none, more, enclosed-append, enclosed-snoc, enclosed-length, enclosed-sum}
+use Rattle.method.proofs.Enclosed.{AllEnclosed, none, more, enclosed-snoc, enclosed-length, enclosed-sum}
 use Rattle.method.proofs.QuotesLaws.{next-done, gap-inverse, par-inverse}
 use Rattle.method.proofs.QuotesBounds.{each-snoc, lastYear-factor, yearly-factor}
 use Rattle.method.proofs.Par.{true-par-encloses}

@@ -1,13 +1,11 @@
 -- The factor of a quoted year by par encloses the exact one, for any rate above -100,000 and any enclosed annuity.
-use mathlib.Core.Path.{_≡_, refl, ap, subst}
-use mathlib.Core.Bool.{true, false}
-use Prim.Native.Nat.{ℕ, zero, suc, _+_, _*_, _-_, _≤_, _<_}
+use Prim.Native.Nat.{ℕ, suc, _-_, _≤_, _<_}
 use native.Mathlib.Omega.{arith}
 use borrow.Author.Tests.{le-ltb}
-use lib.IntN.{ℤ, pos, negsuc, natAbs, _+ℤ_, _-ℤ_, _*ℤ_}
-use Rattle.fraction.specs.Fraction.{ℚ, _≈_, _≤ℚ_, NonNegative, NonPositive, Positive, posPart, negPart, natℚ, intℚ, negℚ, _+ℚ_, _-ℚ_, _*ℚ_, _÷_}
-use Rattle.fraction.specs.Rounding.{Encloses, U}
-use Rattle.fraction.proofs.Order.{≈-refl, ≈-sym, ≈-trans, positive-up, ≈→≤}
+use lib.IntN.{ℤ, pos, negsuc}
+use Rattle.fraction.specs.Fraction.{ℚ, _≈_, NonNegative, NonPositive, negPart, natℚ, intℚ, _+ℚ_, _-ℚ_, _*ℚ_}
+use Rattle.fraction.specs.Rounding.{Encloses}
+use Rattle.fraction.proofs.Order.{≈-refl, ≈-sym, ≈-trans}
 use Rattle.fraction.proofs.Sum.{+ℚ-cong}
 use Rattle.fraction.proofs.Product.{*ℚ-cong-right}
 use Rattle.fraction.proofs.Integer.{natℚ-+, intℚ-pos, natℚ-positive}
@@ -15,7 +13,7 @@ use Rattle.fraction.proofs.Quotient.{recip-cong, ÷-cong-left}
 use Rattle.fraction.proofs.Decide as decide
 use Rattle.fraction.proofs.Enclosure.{encloses-≈}
 use Rattle.method.specs.Units.{Pair, rateUnit, parValue}
-use Rattle.method.specs.Quotes.{parNumerator, parDenominator, parLow, parHigh}
+use Rattle.method.specs.Quotes.{parDenominator, parLow, parHigh}
 use Rattle.method.specs.True.{billion, parFactor}
 use Rattle.method.proofs.QuotesBounds.{par-encloses}
 

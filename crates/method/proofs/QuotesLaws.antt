@@ -11,7 +11,7 @@ use lib.Signed.{leZ}
 use borrow.Author.Tests.{eq-eqb, ne-eqb, eqb-true, eqb-false}
 use Rattle.fraction.specs.Rounding.{U, ceilDiv}
 use Rattle.method.specs.Units.{Pair, pair}
-use Rattle.method.specs.Grounds.{Ground, lowBelowOne, highAboveLimit, endFailsTest, Outcome, refused, done, _>>=_, demand}
+use Rattle.method.specs.Grounds.{lowBelowOne, highAboveLimit, endFailsTest, Outcome, refused, done, _>>=_, demand}
 use Rattle.method.specs.Sheet.{total}
 use Rattle.method.specs.Quotes.{annuity, trial, surelyNotAbove, surelyNotBelow, lowX, highX, lowerEnd, upperEnd}
 use Rattle.method.specs.Quotes.{highestFactor, parLow, parHigh, nextYear, quotedYear, insideYears, Bootstrap, lastYear}

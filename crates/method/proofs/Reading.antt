@@ -1,13 +1,12 @@
 -- What reading a sheet comes to, test by test.
-use mathlib.Core.Path.{_≡_, refl}
-use mathlib.Core.Bool.{Bool, true, false}
+use mathlib.Core.Path.{_≡_}
+use mathlib.Core.Bool.{true, false}
 use mathlib.Core.List.{List}
 use Prim.Native.Nat.{ℕ, _<_}
-use native.Mathlib.Omega.{arith}
 use lib.Dec.{eqb, ltb}
 use lib.ListN.{length}
 use borrow.Author.Tests.{eq-eqb, ne-eqb, eqb-true, ltb-true}
-use Rattle.method.specs.Grounds.{Ground, wrongLength, wrongRecord, outOfRange, noVolume, Outcome, refused, done, _>>=_, demand}
+use Rattle.method.specs.Grounds.{wrongLength, wrongRecord, outOfRange, noVolume, refused, done}
 use Rattle.method.specs.Sheet.{slots, rightRecord, inRange, firstFailure, total, Numbers, numbersOf, readSheet}
 use Rattle.method.proofs.Outcome.{demand-done}
 use Rattle.method.specs.Sheet.{allNumbers}

@@ -1,15 +1,14 @@
 -- The numbers of a sheet that is read are in their ranges.
-use mathlib.Core.Path.{_≡_, refl, ap, subst}
-use mathlib.Core.Bool.{Bool, true, false, _&&_}
+use mathlib.Core.Path.{_≡_, ap, subst}
+use mathlib.Core.Bool.{true, _&&_}
 use mathlib.Core.List.{List, [], _∷_, map}
 use Prim.Native.Nat.{ℕ, zero, suc, _+_, _*_, _≤_, _<_, zero-le, suc-le-suc}
 use native.Mathlib.Omega.{arith}
 use lib.Dec.{leb}
 use lib.IntN.{ℤ, pos, negsuc, natAbs}
 use lib.ListN.{length, take, drop, getD}
-use lib.Signed.{mag, leZ}
+use lib.Signed.{leZ}
 use borrow.Author.Tests.{leb-true}
-use Rattle.fraction.specs.Fraction.{posPart, negPart}
 use Rattle.method.specs.Grounds.{done}
 use Rattle.method.specs.Sheet.{Slot, slots, inRange, total, Numbers, numbersOf, readSheet}
 use Rattle.method.proofs.Outcome.{both-true}

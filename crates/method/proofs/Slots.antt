@@ -5,7 +5,7 @@ use mathlib.Core.List.{List, [], _∷_, _++_, map}
 use Prim.Native.Nat.{ℕ, zero, suc, _+_, _*_, _≤_, _<_}
 use native.Mathlib.Nat.{not-suc-le-zero, le-of-suc-le-suc}
 use native.Mathlib.Omega.{arith}
-use lib.IntN.{ℤ, pos, natAbs}
+use lib.IntN.{pos, natAbs}
 use lib.ListN.{length, take, drop, getD, length-take, length-drop, length-map, drop-of-length-le, List·getD-map}
 use lib.Seq.{getD-take, getD-drop, drop-cons}
 use Rattle.method.specs.Sheet.{Kind, month, rate, volume, ultimate, limit, bodyLength, maturities, volumeMaturities, Entry, entry}

@@ -27,7 +27,7 @@ use Rattle.fraction.proofs.Enclosure.{encloses-≈, encloses-nonNegative, enclo
 use Rattle.method.specs.Units.{Pair, pair, SignedPair}
 use Rattle.method.specs.Grounds.{highAboveLimit, Outcome, done, _>>=_}
 use Rattle.method.specs.Quotes.{highestFactor}
-use Rattle.method.specs.Series.{growth, growthLow, growthHigh}
+use Rattle.method.specs.Series.{growth}
 use Rattle.method.specs.Extrapolation.{forward, stepLow, stepHigh, step, extrapolate}
 use Rattle.method.specs.True.{billion, factorial, expSum, exp, convergence, yearForward, extrapolated}
 use Rattle.method.proofs.Enclosed.{AllEnclosed, none, more}

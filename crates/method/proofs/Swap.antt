@@ -1,26 +1,25 @@
 -- The two tests of a trial: "surely not above par" and "surely not below par" say so of the exact swap.
-use mathlib.Core.Path.{_≡_, refl, ap, sym, subst}
-use mathlib.Core.Bool.{Bool, true, false, cond}
-use mathlib.Core.List.{List, [], _∷_, _++_, map}
-use Prim.Native.Nat.{ℕ, zero, suc, _+_, _*_, _/_, _≤_, _<_}
-use native.Mathlib.Nat.{suc-inj, zero-add}
+use mathlib.Core.Path.{_≡_, refl, ap}
+use mathlib.Core.Bool.{true, false, cond}
+use Prim.Native.Nat.{ℕ, zero, suc, _+_, _*_, _/_, _≤_}
+use native.Mathlib.Nat.{zero-add}
 use native.Mathlib.Omega.{arith}
 use borrow.Author.Tests.{leb-true}
 use lib.IntN.{ℤ, pos, negsuc}
 use lib.ListN.{length}
 use lib.Signed.{nonNeg}
-use Rattle.fraction.specs.Fraction.{ℚ, _≈_, _≤ℚ_, natℚ, intℚ, _+ℚ_, _*ℚ_, sumℚ}
+use Rattle.fraction.specs.Fraction.{ℚ, _≤ℚ_, natℚ, intℚ, _+ℚ_, _*ℚ_, sumℚ}
 use Rattle.fraction.specs.Rounding.{U, ceilDiv, Encloses}
-use Rattle.fraction.proofs.Order.{≤ℚ-trans, ≤ℚ-refl, ≤ℚ-≈-trans, ≈-≤ℚ-trans, ≈-sym, ≈-trans, ≈-refl}
-use Rattle.fraction.proofs.Sum.{+ℚ-mono, +ℚ-cong}
-use Rattle.fraction.proofs.Product.{*ℚ-mono-right, *ℚ-anti-right, *ℚ-cong-right}
-use Rattle.fraction.proofs.Integer.{natℚ-mono, natℚ-nonNegative}
+use Rattle.fraction.proofs.Order.{≤ℚ-trans, ≤ℚ-refl, ≤ℚ-≈-trans, ≈-≤ℚ-trans, ≈-sym}
+use Rattle.fraction.proofs.Sum.{+ℚ-mono}
+use Rattle.fraction.proofs.Product.{*ℚ-mono-right, *ℚ-anti-right}
+use Rattle.fraction.proofs.Integer.{natℚ-nonNegative}
 use Rattle.fraction.proofs.Enclosure.{encloses-≈, encloses-+, nat-encloses, nat-below, nat-above}
-use Rattle.method.specs.Units.{Pair, pair, rateUnit, parValue}
+use Rattle.method.specs.Units.{pair, parValue}
 use Rattle.method.specs.Sheet.{total}
 use Rattle.method.specs.Quotes.{Gap, trial, lastOf, lowTrial, highTrial, atMostPar, atLeastPar, surelyNotAbove, surelyNotBelow}
 use Rattle.method.specs.True.{onward, swapValue}
-use Rattle.method.proofs.Enclosed.{AllEnclosed, enclosed-sum}
+use Rattle.method.proofs.Enclosed.{enclosed-sum}
 use Rattle.method.proofs.Par.{parℚ, parValue-exact, rate-nonNegative, rate-nonPositive}
 use Rattle.method.proofs.Zips.{zip-left, zip-right}
 use Rattle.method.proofs.Trial.{onward-zero, trial-encloses, last-encloses, between-sum}

@@ -4,18 +4,18 @@ use mathlib.Core.Path.{_≡_, refl, ap}
 use mathlib.Core.Bool.{Bool, true, _&&_, and-eq-true-iff}
 use mathlib.Core.List.{List, [], _∷_}
 use Prim.Native.Nat.{ℕ, zero, suc, _+_, _*_, _-_, _^_, _≤_, _<_}
-use native.Mathlib.Nat.{pow-suc, pow-zero, one-le-pow, add-zero, le-of-suc-le-suc, not-suc-le-zero, le-trans}
+use native.Mathlib.Nat.{pow-suc, one-le-pow, add-zero, le-of-suc-le-suc, not-suc-le-zero, le-trans}
 use native.Mathlib.Decide.{decLe}
 use native.Mathlib.Omega.{arith}
 use lib.Dec.{leb, ltb, lit<, lit≤}
 use lib.ListN.{length, getD, List·getD-eq-default}
 use borrow.Author.Tests.{leb-true, ltb-true}
-use Rattle.fraction.specs.Fraction.{ℚ, _≈_, _≤ℚ_, _<ℚ_, NonNegative, Positive, natℚ, negℚ, _+ℚ_, _-ℚ_, _*ℚ_, _÷_, recip, powℚ, sumℚ}
+use Rattle.fraction.specs.Fraction.{ℚ, _≈_, _≤ℚ_, _<ℚ_, NonNegative, Positive, natℚ, _+ℚ_, _-ℚ_, _*ℚ_, _÷_, recip, powℚ, sumℚ}
 use Rattle.fraction.specs.Rounding.{U}
 use Rattle.fraction.proofs.Order.{≤ℚ-trans, ≤ℚ-≈-trans, ≈-≤ℚ-trans, ≈→≤, ≈→≥, ≈-sym, ≈-trans, <ℚ-≤ℚ-trans}
 use Rattle.fraction.proofs.Order.{≤ℚ-<ℚ-trans, nonNegative-up, positive→nonNegative, positive-up}
 use Rattle.fraction.proofs.Sum.{+ℚ-mono-right, negℚ-anti}
-use Rattle.fraction.proofs.Product.{*ℚ-cong-left, *ℚ-mono, *ℚ-mono-left, *ℚ-mono-right, *ℚ-cancel-≤-left, *ℚ-cancel-<-left}
+use Rattle.fraction.proofs.Product.{*ℚ-cong-left, *ℚ-mono, *ℚ-mono-right, *ℚ-cancel-≤-left, *ℚ-cancel-<-left}
 use Rattle.fraction.proofs.Quotient.{recip-anti, ÷-nonNegative}
 use Rattle.fraction.proofs.Power.{powℚ-mono, powℚ-*ℚ, natℚ-^}
 use Rattle.fraction.proofs.Integer.{natℚ-nonNegative, natℚ-positive, natℚ-mono, natℚ-strict, natℚ-reflects, natℚ-*, natℚ-∸}

@@ -5,10 +5,10 @@ use Prim.Native.Nat.{ℕ, zero, suc, _+_, _≤_}
 use native.Mathlib.Nat.{add-zero, add-suc, le-dest}
 use native.Mathlib.Omega.{arith}
 use lib.IntN.{pos}
-use Rattle.fraction.specs.Fraction.{ℚ, _≈_, _≤ℚ_, NonNegative, natℚ, negℚ, _+ℚ_, _*ℚ_, sumℚ}
+use Rattle.fraction.specs.Fraction.{ℚ, _≈_, _≤ℚ_, NonNegative, natℚ, _+ℚ_, _*ℚ_, sumℚ}
 use Rattle.fraction.specs.Rounding.{Encloses}
-use Rattle.fraction.proofs.Order.{≤ℚ-refl, ≤ℚ-trans, ≤ℚ-≈-trans, ≈-≤ℚ-trans, ≈-refl, ≈-sym, ≈-trans}
-use Rattle.fraction.proofs.Sum.{+ℚ-comm, +ℚ-assoc, +ℚ-cong, +ℚ-mono, +ℚ-mono-right, negℚ-+ℚ, ≤-+ℚ-right}
+use Rattle.fraction.proofs.Order.{≤ℚ-refl, ≤ℚ-trans, ≤ℚ-≈-trans, ≈-≤ℚ-trans, ≈-sym}
+use Rattle.fraction.proofs.Sum.{+ℚ-mono, +ℚ-mono-right, ≤-+ℚ-right}
 use Rattle.fraction.proofs.Product.{*ℚ-nonNegative, *ℚ-mono-right, *ℚ-+ℚ}
 use Rattle.fraction.proofs.Power.{sumℚ-more}
 use Rattle.fraction.proofs.Integer.{natℚ-nonNegative, natℚ-+}

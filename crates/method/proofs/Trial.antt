@@ -1,19 +1,19 @@
 -- A gap's trial: T1 to Tk, their sum and the last enclose the exact ones, for any length and any enclosed start and yearly factor.
-use mathlib.Core.Path.{_≡_, refl, ap, sym}
-use mathlib.Core.List.{List, [], _∷_, _++_, map, zipWith}
-use Prim.Native.Nat.{ℕ, zero, suc, _+_, _*_, _/_, _≤_, _<_}
+use mathlib.Core.Path.{_≡_, ap, sym}
+use mathlib.Core.List.{zipWith}
+use Prim.Native.Nat.{ℕ, zero, suc, _+_, _*_, _/_}
 use native.Mathlib.Nat.{add-zero}
 use native.Mathlib.Omega.{arith}
-use lib.IntN.{ℤ, pos}
-use Rattle.fraction.specs.Fraction.{ℚ, _≈_, _≤ℚ_, natℚ, _+ℚ_, _*ℚ_, _÷_, recip, powℚ, sumℚ}
+use lib.IntN.{pos}
+use Rattle.fraction.specs.Fraction.{ℚ, _≈_, natℚ, _*ℚ_, _÷_, recip, powℚ, sumℚ}
 use Rattle.fraction.specs.Rounding.{U, ceilDiv, Encloses}
 use Rattle.fraction.proofs.Order.{≈-refl, ≈-sym, ≈-trans, ≡→≈}
 use Rattle.fraction.proofs.Power.{sumℚ-cong, sumℚ-first}
-use Rattle.fraction.proofs.Sum.{+ℚ-cong, +ℚ-assoc, +ℚ-comm, +ℚ-zero, zero-+ℚ}
-use Rattle.fraction.proofs.Product.{*ℚ-assoc, *ℚ-one, *ℚ-cong-right}
+use Rattle.fraction.proofs.Sum.{+ℚ-cong}
+use Rattle.fraction.proofs.Product.{*ℚ-assoc, *ℚ-one}
 use Rattle.fraction.proofs.Rounding.{U-positive}
 use Rattle.fraction.proofs.Enclosure.{encloses-≈, encloses-scaled}
-use Rattle.method.specs.Units.{Pair, pair, pairsOf}
+use Rattle.method.specs.Units.{pairsOf}
 use Rattle.method.specs.Quotes.{trial, lastOf}
 use Rattle.method.specs.True.{billion, onward, between, sumOf}
 use Rattle.method.proofs.Enclosed.{AllEnclosed, none, more}

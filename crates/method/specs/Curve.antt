@@ -1,10 +1,10 @@
 -- The answer of a sheet: the first ground among 1 to 4 and 7 to 10 that applies, or the curve. (5 and 6 are the book's.)
-use mathlib.Core.List.{List, [], _∷_, _++_, map}
+use mathlib.Core.List.{List, _++_, map}
 use Prim.Native.Nat.{ℕ, _+_}
 use lib.Dec.{eqb}
-use lib.ListN.{take, drop, getD}
-use Rattle.method.specs.Units.{Pair, SignedPair}
-use Rattle.method.specs.Grounds.{Ground, bandTooWide, Outcome, refused, done, _>>=_, demand}
+use lib.ListN.{take, drop}
+use Rattle.method.specs.Units.{SignedPair}
+use Rattle.method.specs.Grounds.{bandTooWide, Outcome, done, _>>=_, demand}
 use Rattle.method.specs.Sheet.{Numbers, readSheet, maturities}
 use Rattle.method.specs.Quotes.{Bootstrap, bootstrap, quotesOf, lastYear}
 use Rattle.method.specs.Series.{gapForward, ultimateForward}

@@ -1,17 +1,17 @@
 -- SPECIFICATION 5: extrapolated years 21 to 150, with grounds 8 and 10.
-use mathlib.Core.Bool.{Bool, true, false, cond, not}
-use mathlib.Core.List.{List, [], _∷_, _++_, map}
-use Prim.Native.Nat.{ℕ, zero, suc, _+_, _*_, _-_, _/_}
-use lib.Dec.{leb, ltb, eqb}
-use lib.IntN.{ℤ, pos, negsuc, natAbs, negℤ, _+ℤ_, _*ℤ_}
-use lib.ListN.{length, getD, take, drop}
-use lib.Signed.{ltZ, leZ, nonNeg}
+use mathlib.Core.Bool.{cond}
+use mathlib.Core.List.{List, [], _∷_, map}
+use Prim.Native.Nat.{ℕ, suc, _+_, _*_, _-_, _/_}
+use lib.Dec.{leb}
+use lib.IntN.{ℤ, pos, negsuc, _+ℤ_, _*ℤ_}
+use lib.ListN.{getD}
+use lib.Signed.{leZ}
 use Rattle.fraction.specs.Rounding.{U, floor, ceiling, ceilDiv}
 use Rattle.method.specs.Units.{Pair, pair, SignedPair, signedPair}
-use Rattle.method.specs.Grounds.{Ground, highAboveLimit, bandTooWide, Outcome, refused, done, _>>=_, demand}
+use Rattle.method.specs.Grounds.{highAboveLimit, Outcome, done, _>>=_, demand}
 use Rattle.method.specs.Sheet.{total}
 use Rattle.method.specs.Quotes.{highestFactor}
-use Rattle.method.specs.Series.{growthLow, growthHigh, growth}
+use Rattle.method.specs.Series.{growthLow, growthHigh}
 
 -- ---- LLFR, from the volumes at 20, 25, 30, 40, 50 and the lows, or the highs, of g1 to g5
 

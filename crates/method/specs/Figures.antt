@@ -1,12 +1,12 @@
 -- SPECIFICATION 12: the figures marked * and those marked +, each as one list.
 use mathlib.Core.Path.{_≡_}
 use mathlib.Core.List.{List, [], _∷_, _++_, map}
-use Prim.Native.Nat.{ℕ, zero, suc, _+_, _-_, _/_, _%_}
+use Prim.Native.Nat.{ℕ, zero, suc, _+_, _-_}
 use lib.IntN.{ℤ, pos, negsuc}
 use lib.ListN.{replicate, getD}
 use Rattle.fraction.specs.Rounding.{U}
 use Rattle.method.specs.Bytes.{bytes2, bytes4}
-use Rattle.method.specs.Units.{Pair, pair, SignedPair, signedPair}
+use Rattle.method.specs.Units.{Pair, pair, SignedPair}
 use Rattle.method.specs.Grounds.{numberOf, placeOf, Outcome, refused, done}
 use Rattle.method.specs.Sheet.{maturities, volumeMaturities}
 use Rattle.method.specs.Quotes.{Bootstrap, bootstrap, quotesOf}

@@ -1,14 +1,14 @@
 -- SPECIFICATION 3: factors from the quotes, with grounds 7, 8 and 9 on their years.
-use mathlib.Core.Bool.{Bool, true, false, cond, not, _&&_}
+use mathlib.Core.Bool.{Bool, cond, not, _&&_}
 use mathlib.Core.List.{List, [], _∷_, _++_, map}
 use Prim.Native.Nat.{ℕ, zero, suc, _+_, _*_, _-_, _/_}
 use lib.Dec.{leb, ltb, eqb}
 use lib.IntN.{ℤ, pos, negsuc, natAbs, _+ℤ_, _-ℤ_, _*ℤ_}
-use lib.ListN.{length, getD}
-use lib.Signed.{ltZ, leZ, nonNeg}
+use lib.ListN.{length}
+use lib.Signed.{leZ, nonNeg}
 use Rattle.fraction.specs.Rounding.{U, floor, ceiling, ceilDiv}
 use Rattle.method.specs.Units.{Pair, pair, rateUnit, parValue}
-use Rattle.method.specs.Grounds.{Ground, lowBelowOne, highAboveLimit, endFailsTest, Outcome, refused, done, _>>=_, demand}
+use Rattle.method.specs.Grounds.{lowBelowOne, highAboveLimit, endFailsTest, Outcome, done, _>>=_, demand}
 use Rattle.method.specs.Sheet.{total}
 
 -- ---- A, and the factor of a quoted year by par

@@ -1,13 +1,13 @@
 -- SPECIFICATION 2: the sheet, with grounds 1 to 4.
-use mathlib.Core.Bool.{Bool, true, false, cond, not, _&&_}
+use mathlib.Core.Bool.{Bool, true, cond, _&&_}
 use mathlib.Core.List.{List, [], _∷_, _++_, map}
-use Prim.Native.Nat.{ℕ, zero, suc, _+_, _*_}
+use Prim.Native.Nat.{ℕ, suc, _+_}
 use lib.Dec.{eqb, ltb}
 use lib.IntN.{ℤ, pos, negsuc, natAbs, _-ℤ_}
 use lib.ListN.{length, take, drop, getD}
 use lib.Signed.{leZ}
 use Rattle.method.specs.Bytes.{bigEndian}
-use Rattle.method.specs.Grounds.{Ground, wrongLength, wrongRecord, outOfRange, noVolume, Outcome, refused, done, _>>=_, demand}
+use Rattle.method.specs.Grounds.{wrongLength, wrongRecord, outOfRange, noVolume, Outcome, done, _>>=_, demand}
 
 -- ---- the 25 records
 

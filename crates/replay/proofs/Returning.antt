@@ -7,11 +7,11 @@ use native.Mathlib.Omega.{arith}
 use lib.Dec.{T}
 use lib.ListN.{length, take, drop}
 use borrow.Author.Tests.{le-leb, lt-leb}
-use Rattle.method.specs.Grounds.{Outcome, refused, done, numberOf}
+use Rattle.method.specs.Grounds.{Outcome, refused, done}
 use Rattle.method.proofs.Places.{number-small}
 use Rattle.ledger.specs.Answers as answer
-use Rattle.ledger.specs.Answers.{answerNumber, answerPlace}
-use Rattle.ledger.specs.Book.{Book, Paged, post, turn, lookUp, page}
+use Rattle.ledger.specs.Answers.{answerPlace}
+use Rattle.ledger.specs.Book.{Book, Paged}
 use Rattle.ledger.specs.Calls.{postOf, turnTo, lookAt, pageInto, asks}
 use Rattle.ledger.proofs.Places.{answer-place}
 use Rattle.grounds.specs.declared.Ground.{Ground}

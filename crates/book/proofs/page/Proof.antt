@@ -1,9 +1,6 @@
 -- 14, then 15, and else the page of the standing curve at its age.
 use mathlib.Core.Path.{sym, ap, _∙_}
-use mathlib.Core.List.{List}
-use Prim.Native.Nat.{ℕ}
 use denote.Ref.{now}
-use Rattle.ledger.specs.Page.{pageBytes}
 use Rattle.ledger.proofs.Asked.{page-none, page-short, page-some}
 use Rattle.grounds.specs.declared.Verdict.the-variants.{Passed}
 use Rattle.curve.specs.Curves.{asCurve}

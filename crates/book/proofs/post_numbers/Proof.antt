@@ -1,6 +1,6 @@
 -- 5, 6, and else what the numbers are worked to.
 use mathlib.Core.Path.{_≡_, refl, sym, ap, _∙_}
-use mathlib.Core.Bool.{true, false}
+use mathlib.Core.Bool.{true}
 use Prim.Native.Nat.{_≤_}
 use Rattle.ledger.specs.Book.{Booked, notBefore}
 use Rattle.grounds.specs.Verdicts.{resultOr}

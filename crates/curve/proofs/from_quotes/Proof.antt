@@ -1,5 +1,5 @@
 -- Ground 8 on the extrapolated years, then ground 10 on all.
-use mathlib.Core.Path.{_≡_, refl, sym, ap, _∙_}
+use mathlib.Core.Path.{_≡_, sym, ap, _∙_}
 use lib.ListN.{length}
 use Rattle.bootstrap.specs.Liquids.{asBootstrap}
 use Rattle.grounds.specs.Verdicts.{resultOr}

@@ -2,7 +2,6 @@
 use mathlib.Core.Path.{refl}
 use Rattle.method.specs.Table.{table}
 use Rattle.method.proofs.TableRule.{table-rule, table-below}
-use borrow.Author.Needs.{needs}
 use Rattle.extrapolation.proofs.weights.Statement.{statement}
 use Rattle.extrapolation.proofs.weights.Tie as tie
 

@@ -1,5 +1,5 @@
 -- The look-up of the replayed book, of which demand 3 tells.
-use mathlib.Core.Path.{_≡_, ap, subst⁻¹, _∙_}
+use mathlib.Core.Path.{ap, subst⁻¹, _∙_}
 use denote.Ref.{now}
 use Rattle.method.specs.Grounds.{Outcome}
 use Rattle.ledger.specs.Answers.{Finding}

@@ -1,5 +1,5 @@
 -- The page of the replayed book, of which demand 3 tells.
-use mathlib.Core.Path.{_≡_, ap, subst⁻¹, _∙_}
+use mathlib.Core.Path.{ap, subst⁻¹, _∙_}
 use denote.Ref.{now}
 use Rattle.ledger.specs.Book.{Book, Paged, page}
 use Rattle.ledger.specs.Calls.{pageInto}

@@ -1,6 +1,4 @@
 -- The answer as one number; a finding in twelve bytes where there is room.
-use mathlib.Core.Path.{_≡_}
-use native.Mathlib.Omega.{arith}
 use denote.Ref.{now}
 use Rattle.ledger.specs.Calls.{lookAt, asks, run}
 use Rattle.ledger.proofs.Places.{answer-place}

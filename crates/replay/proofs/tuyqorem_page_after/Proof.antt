@@ -1,10 +1,8 @@
 -- The answer as one number, beside the page.
-use mathlib.Core.Path.{_≡_, ap, subst, _∙_}
+use mathlib.Core.Path.{ap}
 use denote.Ref.{now}
 use Rattle.ledger.specs.Book.{Paged}
 use Rattle.ledger.specs.Calls.{pageInto, asks, run}
-use Rattle.ledger.specs.Count.{count}
-use Rattle.ledger.specs.Tells.{PageTells}
 use Rattle.ledger.proofs.Places.{answer-place}
 use Rattle.ledger.proofs.Theorem.{demand-3}
 use Rattle.journal.specs.Journal.{decode}
