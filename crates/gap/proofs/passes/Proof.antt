@@ -1,10 +1,10 @@
 -- By the rate's sign: the sums that a test asks for are those of one side, or of both.
-use mathlib.Core.Path.{sym, _∙_}
+use mathlib.Core.Path.{_≡_, sym, _∙_}
 use mir.Syntax.{w64}
 use mir.ValLaws.{toZ-ofZ}
 use borrow.Author.Needs.{needs}
 use Rattle.rounding.proofs.Machine.{read-negative, read-nonNegative}
-use Rattle.gap.specs.Gaps.{asGap}
+use Rattle.gap.specs.Gaps.{asGap, parTest}
 use Rattle.gap.proofs.Parring.{rate-fits}
 use Rattle.gap.proofs.Testing.{passes-at, passes-below}
 use Rattle.gap.proofs.passes.Statement.{statement}
@@ -29,7 +29,8 @@ returns c =
     let same = branch .before .before .before in
     let s = same .before in
     let fits = rate-fits (s .args .g .rate) (s .pre .0 .rate) in
-    let test = rw (toZ-ofZ w64 _ fits) at (c .compared .ensures) in
+    let test : c .compared .result ≡ parTest (s .args .up) (s .args .g .rate) (other .side2 .result .total) (same .side .result .last) =
+    rw (toZ-ofZ w64 _ fits) at (c .compared .ensures) in
     test ∙
     (rw (other .side2 .ensures .total, same .side .ensures .last)
     (sym (passes-below (asGap (s .args .g)) (s .args .x) (s .args .up) (read-negative fits (branch .if1 .taken)))))
@@ -40,7 +41,8 @@ returns-2 c =
     let same = branch .before .before .before in
     let s = same .before in
     let fits = rate-fits (s .args .g .rate) (s .pre .0 .rate) in
-    let test = rw (toZ-ofZ w64 _ fits) at (c .compared2 .ensures) in
+    let test : c .compared2 .result ≡ parTest (s .args .up) (s .args .g .rate) (same .side .result .total) (same .side .result .last) =
+    rw (toZ-ofZ w64 _ fits) at (c .compared2 .ensures) in
     test ∙
     (rw (same .side .ensures .total, same .side .ensures .last)
     (sym (passes-at (asGap (s .args .g)) (s .args .x) (s .args .up) (read-nonNegative fits (branch .if1 .left)))))
