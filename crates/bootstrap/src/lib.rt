@@ -235,9 +235,10 @@ pub fn bootstrap(rates: [i16; 17]) -> Bootstrapped
         let verdict = step.verdict;
         liquid = step.liquid;
         let Verdict::Passed = verdict else {
+            let none = fresh();
             return Bootstrapped {
                 verdict: verdict,
-                liquid: fresh(),
+                liquid: none,
             };
         };
         i = i + 1;
