@@ -1,51 +1,38 @@
 -- THE ENCLOSURE: an accepted sheet's bands hold the true factor of every order in every year, within the sheet's limit.
 use mathlib.Core.Path.{_≡_, refl, ap, sym, _∙_}
-use mathlib.Core.Bool.{Bool, true, false, cond}
-use mathlib.Core.List.{List, [], _∷_, _++_, map}
+use mathlib.Core.List.{List, [], _∷_, map}
 use Prim.Native.Nat.{ℕ, zero, suc, _+_, _-_, _≤_, _<_, zero-le}
 use native.Mathlib.Nat.{le-of-suc-le-suc}
 use native.Mathlib.Omega.{arith}
-use borrow.Author.Tests.{eqb-true, leb-true}
-use lib.Dec.{leb, eqb, leb→le}
+use lib.Dec.{leb→le}
 use lib.IntN.{ℤ, pos}
-use lib.ListN.{length, take, drop, getD, length-append, length-drop, length-take, length-map}
+use lib.ListN.{length, take, drop, getD, length-drop, length-take, length-map}
 use lib.Seq.{getD-drop}
 use lib.Signed.{_≤ℤ_}
 use Rattle.fraction.specs.Fraction.{ℚ, natℚ}
 use Rattle.fraction.specs.Rounding.{Encloses}
-use Rattle.fraction.proofs.Order.{<ℚ→≤ℚ}
-use Rattle.fraction.proofs.Enclosure.{encloses-ordered, nat-encloses, nat-below, nat-above}
+use Rattle.fraction.proofs.Enclosure.{encloses-ordered, nat-below, nat-above}
 use Rattle.method.specs.Units.{Pair, pair}
-use Rattle.method.specs.Grounds.{bandTooWide, Outcome, done}
-use Rattle.method.specs.Sheet.{Numbers, readSheet, sheetNumbers, maturities, total}
-use Rattle.method.specs.Quotes.{Bootstrap, bootstrap, quotesOf, lastYear, highestFactor}
+use Rattle.method.specs.Grounds.{done}
+use Rattle.method.specs.Sheet.{Numbers, readSheet, sheetNumbers, maturities}
+use Rattle.method.specs.Quotes.{Bootstrap, bootstrap, quotesOf}
 use Rattle.method.specs.Series.{gapForward, ultimateForward}
-use Rattle.method.specs.Table.{table}
-use Rattle.method.specs.Extrapolation.{llfr, extrapolate, κPairs, firstTooWide}
-use Rattle.method.specs.Curve.{Curve, smoothingYear, gapForwards, curveOf, answer}
-use Rattle.method.specs.True.{minusLog, convergence, liquid, lastLiquidForward, trueCurve, trueFactor}
+use Rattle.method.specs.Extrapolation.{llfr}
+use Rattle.method.specs.Curve.{Curve, smoothingYear, gapForwards, extended, curveOf, answer}
+use Rattle.method.specs.True.{minusLog, liquid, lastLiquidForward, trueCurve, trueFactor}
 use Rattle.method.specs.Enclosure.{CurveHolds, lowOf, highOf}
-use Rattle.method.proofs.Outcome.{bind-done, demand-done, done-injective}
-use Rattle.method.proofs.Enclosed.{AllEnclosed, enclosed-append, enclosed-take, enclosed-drop, enclosed-at, enclosed-length}
+use Rattle.method.proofs.Outcome.{bind-done, done-injective}
+use Rattle.method.proofs.Enclosed.{AllEnclosed, enclosed-take, enclosed-drop, enclosed-at, enclosed-length}
 use Rattle.method.proofs.QuotesBounds.{each-at, bootstrap-length, bootstrap-bounded}
 use Rattle.method.proofs.Reading.{read-passes}
 use Rattle.method.proofs.SheetBounds.{read-bounds}
-use Rattle.method.proofs.Liquid.{LiquidEnclosed, RatesAbove, Rising, last-year, bootstrap-encloses}
+use Rattle.method.proofs.Liquid.{LiquidEnclosed, RatesAbove, Rising, bootstrap-encloses}
 use Rattle.method.proofs.Logarithm.{gapForward-encloses, ultimateForward-encloses}
-use Rattle.method.proofs.SeriesBounds.{gapForward-bound, ultimateForward-bound}
-use Rattle.method.proofs.TableRule.{table-rule, table-length, table-below}
+use Rattle.method.proofs.SeriesBounds.{gapForward-bound}
 use Rattle.method.proofs.Size.{Within}
-use Rattle.method.proofs.Forward.{zeroPair, Weighs, κPairs-weigh, llfr-encloses-at, llfr-bound-at}
-use Rattle.method.proofs.Step.{extrapolate-encloses, extrapolate-length, extrapolate-highs}
+use Rattle.method.proofs.Forward.{zeroPair, llfr-encloses-at, llfr-bound-at}
+use Rattle.method.proofs.Extended.{Usable, HighsAtMost, Extends, extends, extended-length, extended-holds, extended-at-most, extended-narrow}
 use Rattle.method.specs.Ranges.{Each, Factor, YearlyFactor, RateInRange, NumbersInRange}
-
--- what the enclosure asks of a sheet's numbers; grounds 1 to 4 see to it
-pub record Usable (s : Numbers) : Type 0 where
-  pub rate-count : length (s .rates) ≡ 17
-  pub rates-above : RatesAbove (s .rates)
-  pub volume-count : length (s .volumes) ≡ 5
-  pub traded : 0 < total (s .volumes)
-  pub ultimate-most : s .ultimate ≤ 10_000
 
 -- ---- lists
 
@@ -59,9 +46,6 @@ map-all f [] i d = refl
 map-all f (x ∷ xs) zero d = refl
 map-all f (x ∷ xs) (suc i) d = map-all f xs i d
 
-abbrev HighsAtMost : List Pair → Type 0
-HighsAtMost ps = (i : ℕ) → getD ps i (pair 0 0) .high ≤ highestFactor
-
 factors-at-most : {ps : List Pair} → Each Factor ps → HighsAtMost ps
 factors-at-most Each.none i = zero-le
 factors-at-most (Each.more f e) zero = f .greatest
@@ -72,27 +56,6 @@ take-at-most zero ps h i = zero-le
 take-at-most (suc k) [] h i = zero-le
 take-at-most (suc k) (p ∷ ps) h zero = h zero
 take-at-most (suc k) (p ∷ ps) h (suc i) = take-at-most k ps (λ j. h (suc j)) i
-
-append-at-most : (ps qs : List Pair) → HighsAtMost ps → HighsAtMost qs → HighsAtMost (ps ++ qs)
-append-at-most [] qs h k i = k i
-append-at-most (p ∷ ps) qs h k zero = h zero
-append-at-most (p ∷ ps) qs h k (suc i) = append-at-most ps qs (λ j. h (suc j)) k i
-
--- ---- ground 10
-
--- the first year passes, and so do the later ones
-passes : (b : Bool) (rest year : ℕ) → 0 < year → cond b rest year ≡ 0 → (b ≡ true) × (rest ≡ 0)
-passes true rest year h e = (refl, e)
-passes false rest year h e = absurd (omega arith)
-
-not-too-wide : (limit year : ℕ) (ps : List Pair) → 0 < year → firstTooWide limit year ps ≡ 0 → (i : ℕ) → i < length ps →
-    getD ps i (pair 0 0) .high ≤ getD ps i (pair 0 0) .low + limit
-unfolding firstTooWide
-not-too-wide limit year [] h e i l = absurd (omega arith)
-not-too-wide limit year (p ∷ ps) h e zero l =
-    omega (arith, leb-true (p .high - p .low) limit (passes (leb (p .high - p .low) limit) (firstTooWide limit (year + 1) ps) year h e .0))
-not-too-wide limit year (p ∷ ps) h e (suc i) l =
-    not-too-wide limit (year + 1) ps (omega arith) (passes (leb (p .high - p .low) limit) (firstTooWide limit (year + 1) ps) year h e .1) i (le-of-suc-le-suc l)
 
 -- ---- the forwards of the gaps
 
@@ -127,23 +90,6 @@ module _ (n : ℕ) {ys : List Pair} {xs : List ℚ} (e : AllEnclosed ys xs) (r :
       let b = gapForward-bound y (k .low-least) (k .low-greatest) (k .high-least) (k .high-greatest) in
       rw (map-at gapForward (drop 2 ys) i (pair 0 0) zeroPair (rw five h))
       (record { low-within = record { bound = omega (arith, b .0) }; high-within = record { bound = omega (arith, b .1) } })
-
--- ---- the years after 20
-
-ultimate-within : (u : ℕ) → u ≤ 10_000 → Within 250_000_000 (ultimateForward u)
-ultimate-within u h =
-    let b = ultimateForward-bound u h in
-    record { low-within = record { bound = omega (arith, b .0) }; high-within = record { bound = omega (arith, b .1) } }
-
-table-weighs : (n i : ℕ) → i < length table → Weighs (pair (getD table i 0) (getD table i 0 + 1)) (convergence n (1 + i))
-table-weighs n i h =
-    let one : 1 + i ≡ suc i = omega arith in
-    let rule = table-rule n i (rw table-length at h) in
-    rw one (record { at-most-U = table-below i; weight = nat-encloses (rule .0) (<ℚ→≤ℚ (rule .1)) })
-
-κ-length : length (κPairs table) ≡ 130
-unfolding κPairs
-κ-length = length-map table (λ k. pair k (k + 1)) ∙ table-length
 
 rising : Rising 0 maturities
 unfolding maturities
@@ -183,100 +129,73 @@ ultimateForward-ordered u h = encloses-ordered (ultimateForward-encloses 0 u h)
 
 -- ---- the curve
 
--- the years after 20 of a sheet, from its liquid part
-abbrev laterYears : Numbers → Bootstrap → Outcome (List Pair)
-laterYears s b =
-    let f = llfr (s .volumes) (gapForwards b) in
-    extrapolate (ultimateForward (s .ultimate)) f (κPairs table) (smoothingYear + 1) (lastYear (take smoothingYear (b .factors)))
-
 -- what an accepted sheet was worked through
 record Worked (s : Numbers) (c : Curve) : Type 0 where
   b : Bootstrap
-  later : List Pair
+  years : List Pair
   liquid-done : bootstrap (quotesOf maturities (s .rates)) ≡ done b
-  later-done : laterYears s b ≡ done later
-  narrow : firstTooWide (s .limit) 1 (take smoothingYear (b .factors) ++ later) ≡ 0
-  is :
-      c
-      ≡ record {
-        month = s .month;
-        limit = s .limit;
-        lows = map (λ p. p .low) (take smoothingYear (b .factors) ++ later);
-        highs = map (λ p. p .high) (take smoothingYear (b .factors) ++ later);
-      }
+  extended-done : extended s (llfr (s .volumes) (gapForwards b)) (take smoothingYear (b .factors)) ≡ done years
+  is : c ≡ record { month = s .month; limit = s .limit; lows = map (λ p. p .low) years; highs = map (λ p. p .high) years }
 
 worked : (s : Numbers) (c : Curve) → curveOf s ≡ done c → Worked s c
 unfolding curveOf
 worked s c e =
     let boot = bind-done (bootstrap (quotesOf maturities (s .rates))) _ e in
     let b = boot .0 in
-    let quoted = take smoothingYear (b .factors) in
-    let ext = bind-done (laterYears s b) _ (boot .2) in
-    let wide = firstTooWide (s .limit) 1 (quoted ++ ext .0) in
-    let ten = demand-done (eqb wide 0) (bandTooWide wide) _ (ext .2) in
-    record {
-      b = b;
-      later = ext .0;
-      liquid-done = boot .1;
-      later-done = ext .1;
-      narrow = eqb-true wide 0 (ten .0);
-      is = sym (done-injective (ten .1));
-    }
+    let ext = bind-done (extended s (llfr (s .volumes) (gapForwards b)) (take smoothingYear (b .factors))) _ (boot .2) in
+    record { b = b; years = ext .0; liquid-done = boot .1; extended-done = ext .1; is = sym (done-injective (ext .2)) }
 
 module _ (s : Numbers) (u : Usable s) {c : Curve} (w : Worked s c) where
-  years : List Pair
-  years = take smoothingYear (w .b .factors) ++ w .later
+  abbrev quoted : List Pair
+  quoted = take smoothingYear (w .b .factors)
 
-  enclosed : (n : ℕ) → AllEnclosed years (trueCurve n s)
-  unfolding years trueCurve
-  enclosed n =
-      let quoted = enclosed-take smoothingYear (quotes-enclosed s u (w .liquid-done) n .years .enclosed) in
-      let ultimate-small = ultimate-within (s .ultimate) (u .ultimate-most) in
-      let llfr-small = llfr-within s u (w .liquid-done) in
-      let ultimate = ultimateForward-encloses n (s .ultimate) (u .ultimate-most) in
-      let last-liquid = llfr-enclosed s u (w .liquid-done) n in
-      let weighs = κPairs-weigh (λ i. convergence n (1 + i)) table (table-weighs n) in
-      let from20 = extrapolate-encloses n _ _ ultimate-small llfr-small ultimate last-liquid (κPairs table) 1 (smoothingYear + 1) _ weighs in
-      let later = from20 (last-year quoted) (w .later-done) in
-      enclosed-append quoted (rw κ-length at later)
-
-  years-length : length years ≡ 150
-  unfolding years
-  years-length =
+  quoted-length : length quoted ≡ 20
+  quoted-length =
       let fifty = bootstrap-length (s .rates) (u .rate-count) (w .liquid-done) .0 in
-      let rest = extrapolate-length _ _ (κPairs table) (smoothingYear + 1) _ (w .later-done) ∙ κ-length in
-      simp (length-append, length-take, fifty, rest)
+      simp (length-take, fifty)
+
+  steps : Extends s (llfr (s .volumes) (gapForwards (w .b))) quoted (w .years)
+  steps = extends s _ quoted (w .extended-done)
+
+  years-length : length (w .years) ≡ 150
+  years-length = extended-length s u _ quoted steps (omega (arith, quoted-length)) (omega (arith, quoted-length))
+
+  enclosed : (n : ℕ) → AllEnclosed (w .years) (trueCurve n s)
+  unfolding trueCurve
+  enclosed n =
+      extended-holds s u _ quoted steps (omega (arith, quoted-length)) (omega (arith, quoted-length)) n
+      (llfr-within s u (w .liquid-done))
+      (llfr-enclosed s u (w .liquid-done) n)
+      (enclosed-take smoothingYear (quotes-enclosed s u (w .liquid-done) n .years .enclosed))
 
   -- a year's low and high on the list
-  low-at : (t : ℕ) → lowOf c t ≡ getD years (t - 1) (pair 0 0) .low
-  unfolding years
-  low-at t = rw (w .is) (map-all (λ p. p .low) (take smoothingYear (w .b .factors) ++ w .later) (t - 1) (pair 0 0))
+  low-at : (t : ℕ) → lowOf c t ≡ getD (w .years) (t - 1) (pair 0 0) .low
+  low-at t = rw (w .is) (map-all (λ p. p .low) (w .years) (t - 1) (pair 0 0))
 
-  high-at : (t : ℕ) → highOf c t ≡ getD years (t - 1) (pair 0 0) .high
-  unfolding years
-  high-at t = rw (w .is) (map-all (λ p. p .high) (take smoothingYear (w .b .factors) ++ w .later) (t - 1) (pair 0 0))
+  high-at : (t : ℕ) → highOf c t ≡ getD (w .years) (t - 1) (pair 0 0) .high
+  high-at t = rw (w .is) (map-all (λ p. p .high) (w .years) (t - 1) (pair 0 0))
 
   true-at : (n t : ℕ) → 1 ≤ t → t ≤ 150 → Encloses (pos (lowOf c t)) (pos (highOf c t)) (trueFactor n s t)
   unfolding trueFactor
   true-at n t h k = rw (low-at t, high-at t) (enclosed-at (t - 1) (pair 0 0) (natℚ 0) (enclosed n) (omega (arith, years-length)))
 
-  highs-at-most : HighsAtMost years
-  unfolding years
+  highs-at-most : HighsAtMost (w .years)
   highs-at-most =
-      let quoted = take-at-most smoothingYear (w .b .factors) (factors-at-most (bootstrap-bounded _ (w .liquid-done) .factors)) in
-      let later = extrapolate-highs _ _ (κPairs table) (smoothingYear + 1) _ (w .later-done) in
-      append-at-most (take smoothingYear (w .b .factors)) (w .later) quoted later
+      extended-at-most s u _ quoted steps (omega (arith, quoted-length)) (omega (arith, quoted-length))
+      (take-at-most smoothingYear (w .b .factors) (factors-at-most (bootstrap-bounded _ (w .liquid-done) .factors)))
+
+  narrow : (i : ℕ) → i < 150 → getD (w .years) i (pair 0 0) .high ≤ getD (w .years) i (pair 0 0) .low + s .limit
+  narrow = extended-narrow s u _ quoted steps (omega (arith, quoted-length)) (omega (arith, quoted-length))
 
   holds : CurveHolds s c
-  unfolding years
   holds =
       record {
         month-kept = ap (λ (k : Curve). k .month) (w .is);
         limit-kept = ap (λ (k : Curve). k .limit) (w .is);
-        years-of-lows = ap (λ (k : Curve). length (k .lows)) (w .is) ∙ length-map years (λ p. p .low) ∙ years-length;
-        years-of-highs = ap (λ (k : Curve). length (k .highs)) (w .is) ∙ length-map years (λ p. p .high) ∙ years-length;
+        years-of-lows = ap (λ (k : Curve). length (k .lows)) (w .is) ∙ length-map (w .years) (λ p. p .low) ∙ years-length;
+        years-of-highs = ap (λ (k : Curve). length (k .highs)) (w .is) ∙ length-map (w .years) (λ p. p .high) ∙ years-length;
         ordered = λ t h k. leb→le (lowOf c t) (highOf c t) (encloses-ordered (true-at 0 t h k) .le);
-        within-limit = λ t h k. rw (low-at t, high-at t) (not-too-wide (s .limit) 1 years (omega arith) (w .narrow) (t - 1) (omega (arith, years-length)));
+        within-limit = λ t h k. rw (low-at t, high-at t) (narrow (t - 1) (omega arith));
         at-most = λ t h k. rw (high-at t) (highs-at-most (t - 1));
         true-years = λ n. sym (enclosed-length (enclosed n)) ∙ years-length;
         encloses-true = true-at;
@@ -299,6 +218,8 @@ usable s h =
       volume-count = h .volume-count;
       traded = h .total-least;
       ultimate-most = h .ultimate-most;
+      phase-in-least = h .phase-in-least;
+      phase-in-most = h .phase-in-most;
     }
 
 -- For every bytes that are accepted: the curve is the sheet's, within its limit, and holds the true factor of every order.

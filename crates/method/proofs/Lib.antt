@@ -15,6 +15,11 @@ pub mod Growth
 pub mod Logarithm
 pub mod SeriesBounds
 pub mod TableRule
+pub mod Convergence
+pub mod Weights
+pub mod Speed
+pub mod Extended
+pub mod Earlier
 pub mod SeriesExamples
 pub mod Size
 pub mod Forward

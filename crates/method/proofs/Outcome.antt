@@ -20,6 +20,16 @@ pub bind-done : {A B : Type 0} (o : Outcome A) (f : A → Outcome B) {y : B} →
 bind-done (refused g) f e = absurd (refused-not-done e)
 bind-done (done x) f e = (x, refl, e)
 
+-- one step after the other, however they are grouped
+pub bind-assoc : {A B C : Type 0} (o : Outcome A) (f : A → Outcome B) (g : B → Outcome C) → ((o >>= f) >>= g) ≡ (o >>= λ a. f a >>= g)
+bind-assoc (refused r) f g = refl
+bind-assoc (done a) f g = refl
+
+-- the same next step for the result that there is
+pub bind-with : {A B : Type 0} (o : Outcome A) {f g : A → Outcome B} → ((a : A) → o ≡ done a → f a ≡ g a) → (o >>= f) ≡ (o >>= g)
+bind-with (refused r) e = refl
+bind-with (done a) e = e a refl
+
 pub demand-done : {B : Type 0} (b : Bool) (g : Ground) (f : Unit {0} → Outcome B) {y : B} → (demand b g >>= f) ≡ done y → (b ≡ true) × (f tt ≡ done y)
 demand-done true g f e = (refl, e)
 demand-done false g f e = absurd (refused-not-done e)

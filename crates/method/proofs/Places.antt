@@ -1,4 +1,4 @@
--- The place of every refusal is at most 150: a record of 25, a quoted year of 50, or a year of 150.
+-- The place of every refusal is at most 150: a record of 26, a quoted year of 50, or a year of 150.
 use mathlib.Core.Path.{_≡_, refl}
 use mathlib.Core.Bool.{Bool, true, false, cond}
 use mathlib.Core.List.{List, [], _∷_, _++_}
@@ -6,23 +6,22 @@ use Prim.Native.Nat.{ℕ, zero, suc, _+_, _*_, _-_, _/_, _≤_, _<_}
 use native.Mathlib.Omega.{arith}
 use lib.Dec.{eqb, leb, ltb}
 use lib.IntN.{ℤ, pos}
-use lib.ListN.{length, take, length-append, length-take, length-map}
+use lib.ListN.{length, take, length-append, length-take}
 use lib.Signed.{leZ}
 use Rattle.fraction.specs.Rounding.{U, ceilDiv}
 use Rattle.method.specs.Units.{Pair, SignedPair}
 use Rattle.method.specs.Grounds.{Ground, numberOf, placeOf, Outcome, refused, done, _>>=_, demand}
 use Rattle.method.specs.Grounds.{wrongLength, wrongRecord, outOfRange, noVolume, afterToldMonth, beforeStandingCurve, lowBelowOne}
 use Rattle.method.specs.Grounds.{highAboveLimit, endFailsTest, bandTooWide, monthAboveLast, monthBeforeTold, yearOutside, noCurve, bufferTooShort}
-use Rattle.method.specs.Sheet.{Slot, slots, firstFailure, rightRecord, inRange, total, Numbers, sheetNumbers, readSheet, maturities}
+use Rattle.method.specs.Sheet.{layoutOf, sizeOf, Slot, slotsOf, firstFailure, rightRecord, inRange, total, Numbers, sheetNumbers, readSheet, maturities}
 use Rattle.method.specs.Quotes.{annuity, parLow, parHigh, trial, highestFactor, nextYear, quotedYear, insideYears, Bootstrap, gapYears}
 use Rattle.method.specs.Quotes.{Quote, parYear, yearsTo, bootstrapFrom, quotesOf, bootstrap}
-use Rattle.method.specs.Table.{table}
-use Rattle.method.specs.Extrapolation.{forward, step, extrapolate, κPairs, firstTooWide}
-use Rattle.method.specs.Curve.{curveOf, answer, smoothingYear}
+use Rattle.method.specs.Extrapolation.{weights, forward, step, extrapolate, firstTooWide}
+use Rattle.method.specs.Curve.{factorOf, withinLimit, extended, curveOf, answer, smoothingYear}
 use Rattle.method.proofs.QuotesLaws.{endsPass, inside, years-cases}
 use Rattle.method.proofs.QuotesBounds.{next-length, inside-length, climbs, maturities-climb, climbs-more, climbs-within, years-length}
-use Rattle.method.proofs.Slots.{slots-length}
-use Rattle.method.proofs.ExtrapolationLaws.{table-length}
+use Rattle.method.proofs.Slots.{slots-most}
+use Rattle.method.proofs.Weights.{weights-most}
 use Rattle.method.proofs.Step.{extrapolate-length}
 
 -- 0 where nothing was refused, so that a bound is one inequality
@@ -61,11 +60,12 @@ wide-most limit year (p ∷ ps) h =
 
 -- ---- grounds 1 to 4
 
-pub read-place : (s : List ℕ) → place (readSheet s) ≤ 25
+pub read-place : (s : List ℕ) → place (readSheet s) ≤ 26
 unfolding readSheet
 read-place s =
-    let first : (p : Slot → Bool) → firstFailure p 1 slots ≤ 25 = λ p. failure-most p 1 slots (omega (arith, slots-length)) in
-    demand-place (eqb (length s) 109) _ _ (omega arith)
+    let slots = slotsOf (layoutOf s) in
+    let first : (p : Slot → Bool) → firstFailure p 1 slots ≤ 26 = λ p. failure-most p 1 slots (omega (arith, slots-most (layoutOf s))) in
+    demand-place (eqb (length s) (sizeOf (layoutOf s))) _ _ (omega arith)
     (demand-place (eqb (firstFailure (rightRecord s) 1 slots) 0) _ _ (first (rightRecord s))
     (demand-place (eqb (firstFailure (inRange s) 1 slots) 0) _ _ (first (inRange s))
     (demand-place (ltb 0 (total (sheetNumbers s .volumes))) _ _ (omega arith) (omega arith))))
@@ -134,16 +134,25 @@ extrapolate-place l f (κ ∷ κs) year p h =
     demand-place (leb (next .high) highestFactor) _ _ (omega arith)
     (bind-place (extrapolate l f κs (year + 1) next) _ (extrapolate-place l f κs (year + 1) next (omega arith)) λ later e. omega arith)
 
-pub curve-place : (n : Numbers) → place (curveOf n) ≤ 150
-unfolding curveOf κPairs
-curve-place n =
-    let count : length (κPairs table) ≡ 130 = simp (length-map, table-length) in
-    bind-place (bootstrap (quotesOf maturities (n .rates))) _ (omega (arith, bootstrap-place (n .rates)))
-    λ b d. bind-place (extrapolate _ _ (κPairs table) _ _) _ (extrapolate-place _ _ (κPairs table) _ _ (omega arith))
+extended-place : (n : Numbers) (f : SignedPair) (quoted : List Pair) → length quoted ≤ 150 → place (extended n f quoted) ≤ 150
+unfolding extended withinLimit
+extended-place n f quoted short =
+    let κs = weights (factorOf n) (150 - length quoted) in
+    let count = weights-most (factorOf n) (150 - length quoted) in
+    bind-place (extrapolate _ _ κs _ _) _ (extrapolate-place _ _ κs _ _ (omega arith))
     λ later e.
-    let rest = extrapolate-length _ _ (κPairs table) _ _ e in
-    let all : length (take smoothingYear (b .factors) ++ later) ≤ 150 = simp (length-append, length-take) (omega arith) in
-    demand-place (eqb (firstTooWide (n .limit) 1 _) 0) _ _ (wide-most (n .limit) 1 _ (omega arith)) (omega arith)
+    let rest = extrapolate-length _ _ κs _ _ e in
+    let all : length (quoted ++ later) ≤ 150 = rw length-append (omega arith) in
+    demand-place (eqb (firstTooWide (n .limit) 1 (quoted ++ later)) 0) _ _ (wide-most (n .limit) 1 _ (omega arith)) (omega arith)
+
+pub curve-place : (n : Numbers) → place (curveOf n) ≤ 150
+unfolding curveOf
+curve-place n =
+    bind-place (bootstrap (quotesOf maturities (n .rates))) _ (omega (arith, bootstrap-place (n .rates)))
+    λ b d.
+    let short : length (take smoothingYear (b .factors)) ≤ 150 = rw length-take (omega arith) in
+    bind-place (extended n _ (take smoothingYear (b .factors))) _ (extended-place n _ (take smoothingYear (b .factors)) short)
+    λ years e. omega arith
 
 -- ---- the answer of any bytes
 

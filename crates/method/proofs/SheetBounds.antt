@@ -1,6 +1,6 @@
 -- The numbers of a sheet that is read are in their ranges.
-use mathlib.Core.Path.{_≡_, ap, subst}
-use mathlib.Core.Bool.{true, _&&_}
+use mathlib.Core.Path.{_≡_, refl, ap, subst}
+use mathlib.Core.Bool.{Bool, true, false, cond, _&&_}
 use mathlib.Core.List.{List, [], _∷_, map}
 use Prim.Native.Nat.{ℕ, zero, suc, _+_, _*_, _≤_, _<_, zero-le, suc-le-suc}
 use native.Mathlib.Omega.{arith}
@@ -10,12 +10,11 @@ use lib.ListN.{length, take, drop, getD}
 use lib.Signed.{leZ}
 use borrow.Author.Tests.{leb-true}
 use Rattle.method.specs.Grounds.{done}
-use Rattle.method.specs.Sheet.{Slot, slots, inRange, total, Numbers, numbersOf, readSheet}
+use Rattle.method.specs.Sheet.{Layout, layoutOf, Slot, slotsOf, slotAt, numberOfRecord, inRange, total, Numbers, allNumbers, sheetNumbers, readSheet}
 use Rattle.method.proofs.Outcome.{both-true}
-use Rattle.method.proofs.Slots.{slots-length, month-slot, rate-slot, volume-slot, ultimate-slot, limit-slot}
+use Rattle.method.proofs.Slots.{slots-least, slots-phased, month-slot, rate-slot, volume-slot, ultimate-slot, limit-slot, phase-in-slot}
 use Rattle.method.proofs.Slots.{none-fails, number-at, rates-length, rate-at, volumes-length, volume-at}
 use Rattle.method.proofs.Reading.{firstOutside, read-passes}
-use Rattle.method.specs.Sheet.{slotAt, allNumbers}
 use Rattle.method.specs.Ranges.{RateInRange, NumbersInRange}
 
 -- ---- one number
@@ -44,35 +43,71 @@ total-at-most b (x ∷ l) f = omega (arith, f 0, total-at-most b l (λ i. f (suc
 -- ---- all numbers
 
 module _ (s : List ℕ) (inside : firstOutside s ≡ 0) where
-  in-range : (i : ℕ) (t : Slot) → i < 25 → slotAt i ≡ t → inRange s t ≡ true
-  in-range i t h e = rw (← e) (none-fails (inRange s) 0 slots inside i (rw slots-length h))
+  abbrev layout : Layout
+  layout = layoutOf s
+
+  in-range : (i : ℕ) (t : Slot) → i < length (slotsOf layout) → slotAt layout i ≡ t → inRange s t ≡ true
+  in-range i t h e = rw (← e) (none-fails (inRange s) 0 (slotsOf layout) inside i h)
+
+  -- one of the first 25
+  among : (i : ℕ) → i < 25 → i < length (slotsOf layout)
+  among i h = omega (arith, slots-least layout)
 
   rates-in-range : (i : ℕ) → i < 17 → RateInRange (getD (take 17 (drop 1 (allNumbers s))) i (pos 0))
   rates-in-range i h =
-      let e = rate-slot i h in
-      rw (rate-at s i _ h e) (integer-range _ (in-range (1 + i) _ (omega arith) e))
+      let e = rate-slot layout i h in
+      rw (rate-at s i _ h e) (integer-range _ (in-range (1 + i) _ (among (1 + i) (omega arith)) e))
 
   volumes-in-range : (i : ℕ) → i < 5 → getD (map natAbs (take 5 (drop 18 (allNumbers s)))) i 0 ≤ 1_000_000
   volumes-in-range i h =
-      let e = volume-slot i h in
-      rw (volume-at s i _ h e) (natural-range 0 _ 1_000_000 (in-range (18 + i) _ (omega arith) e) .1)
+      let e = volume-slot layout i h in
+      rw (volume-at s i _ h e) (natural-range 0 _ 1_000_000 (in-range (18 + i) _ (among (18 + i) (omega arith)) e) .1)
 
-  numbers-in-range : 0 < total (numbersOf (allNumbers s) .volumes) → NumbersInRange (numbersOf (allNumbers s))
+  -- a number without sign, by its slot
+  number-range : (i : ℕ) (t : Slot) (low high : ℕ) → i < length (slotsOf layout) → slotAt layout i ≡ t →
+      (inRange s t ≡ true → (low ≤ natAbs (numberOfRecord s t)) × (natAbs (numberOfRecord s t) ≤ high)) →
+      (low ≤ natAbs (getD (allNumbers s) i (pos 0))) × (natAbs (getD (allNumbers s) i (pos 0)) ≤ high)
+  number-range i t low high h e range = rw (number-at s i t h e) (range (in-range i t h e))
+
+  month-range : natAbs (getD (allNumbers s) 0 (pos 0)) ≤ 2_399
+  month-range = number-range 0 _ 0 2_399 (among 0 (omega arith)) (month-slot layout) (natural-range 0 _ 2_399) .1
+
+  ultimate-range : natAbs (getD (allNumbers s) 23 (pos 0)) ≤ 10_000
+  ultimate-range = number-range 23 _ 0 10_000 (among 23 (omega arith)) (ultimate-slot layout) (natural-range 0 _ 10_000) .1
+
+  limit-range : (1 ≤ natAbs (getD (allNumbers s) 24 (pos 0))) × (natAbs (getD (allNumbers s) 24 (pos 0)) ≤ 100_000)
+  limit-range = number-range 24 _ 1 100_000 (among 24 (omega arith)) (limit-slot layout) (natural-range 1 _ 100_000)
+
+  -- read where the record stands, 10,000 elsewhere
+  phase-in-range : (10_000 ≤ sheetNumbers s .phaseIn) × (sheetNumbers s .phaseIn ≤ 20_000)
+  phase-in-range = go (layout .phased) present
+    where
+      present : layout .phased ≡ true → (10_000 ≤ natAbs (getD (allNumbers s) 25 (pos 0))) × (natAbs (getD (allNumbers s) 25 (pos 0)) ≤ 20_000)
+      present e =
+          number-range 25 _ 10_000 20_000 (omega (arith, slots-phased layout e)) (phase-in-slot layout e) (natural-range 10_000 _ 20_000)
+
+      go : {x : ℕ} (phased : Bool) → (phased ≡ true → (10_000 ≤ x) × (x ≤ 20_000)) → (10_000 ≤ cond phased x 10_000) × (cond phased x 10_000 ≤ 20_000)
+      go true range = range refl
+      go false range = omega arith
+
+  numbers-in-range : 0 < total (sheetNumbers s .volumes) → NumbersInRange (sheetNumbers s)
   numbers-in-range traded =
-      let n = numbersOf (allNumbers s) in
+      let n = sheetNumbers s in
       let volume-most : (i : ℕ) → getD (n .volumes) i 0 ≤ 1_000_000 =
       at-every (λ v. v ≤ 1_000_000) (n .volumes) 0 zero-le (λ i h. volumes-in-range i (rw (volumes-length s) at h)) in
       record {
-        month-most = rw (number-at s 0 _ (omega arith) month-slot) (natural-range 0 _ 2_399 (in-range 0 _ (omega arith) month-slot) .1);
+        month-most = month-range;
         rate-count = rates-length s;
         rate-range = at-every RateInRange (n .rates) (pos 0) (omega arith) (λ i h. rates-in-range i (rw (rates-length s) at h));
         volume-count = volumes-length s;
         volume-most = volume-most;
         total-least = traded;
         total-most = omega (arith, total-at-most 1_000_000 (n .volumes) volume-most, ap (λ (k : ℕ). k * 1_000_000) (volumes-length s));
-        ultimate-most = rw (number-at s 23 _ (omega arith) ultimate-slot) (natural-range 0 _ 10_000 (in-range 23 _ (omega arith) ultimate-slot) .1);
-        limit-least = rw (number-at s 24 _ (omega arith) limit-slot) (natural-range 1 _ 100_000 (in-range 24 _ (omega arith) limit-slot) .0);
-        limit-most = rw (number-at s 24 _ (omega arith) limit-slot) (natural-range 1 _ 100_000 (in-range 24 _ (omega arith) limit-slot) .1);
+        ultimate-most = ultimate-range;
+        limit-least = limit-range .0;
+        limit-most = limit-range .1;
+        phase-in-least = phase-in-range .0;
+        phase-in-most = phase-in-range .1;
       }
 
 pub read-bounds : (s : List ℕ) (n : Numbers) → readSheet s ≡ done n → NumbersInRange n

@@ -1,4 +1,4 @@
--- Laws on the 25 slots, and on the first record that fails a test.
+-- Laws on the slots of a layout, and on the first record that fails a test.
 use mathlib.Core.Path.{_≡_, refl, sym, ap, _∙_}
 use mathlib.Core.Bool.{Bool, true, false, cond}
 use mathlib.Core.List.{List, [], _∷_, _++_, map}
@@ -8,8 +8,9 @@ use native.Mathlib.Omega.{arith}
 use lib.IntN.{pos, natAbs}
 use lib.ListN.{length, take, drop, getD, length-take, length-drop, length-map, drop-of-length-le, List·getD-map}
 use lib.Seq.{getD-take, getD-drop, drop-cons}
-use Rattle.method.specs.Sheet.{Kind, month, rate, volume, ultimate, limit, bodyLength, maturities, volumeMaturities, Entry, entry}
-use Rattle.method.specs.Sheet.{entries, Slot, slotsFrom, slots, slot, noSlot, slotAt, numberOfRecord, allNumbers, firstFailure}
+use Rattle.method.specs.Sheet.{Kind, month, rate, volume, ultimate, limit, phaseIn, bodyLength, maturities, volumeMaturities, Entry, entry}
+use Rattle.method.specs.Sheet.{firstEntries, Layout, layoutOf, entriesOf, Slot, slotsFrom, slotsOf, slot, noSlot, slotAt}
+use Rattle.method.specs.Sheet.{numberOfRecord, allNumbers, firstFailure}
 
 -- ---- where each slot starts
 
@@ -26,33 +27,55 @@ pub volume-maturities : volumeMaturities ≡ drop 12 maturities
 unfolding maturities volumeMaturities
 volume-maturities = refl
 
-pub slots-length : length slots ≡ 25
-unfolding maturities volumeMaturities entries slotsFrom slots
-slots-length = refl
+-- what follows the limit's record
+abbrev last : Bool → List Entry
+last phased = cond phased (entry phaseIn 0 ∷ []) []
 
-pub month-slot : slotAt 0 ≡ slot month 0 0
-unfolding maturities volumeMaturities entries slotsFrom slots
-month-slot = refl
+module _ (l : Layout) where
+  pub slots-least : 25 ≤ length (slotsOf l)
+  unfolding maturities volumeMaturities firstEntries entriesOf slotsFrom slotsOf
+  slots-least = omega arith
 
-pub rate-slot : (j : ℕ) → j < 17 → slotAt (1 + j) ≡ slot rate (getD maturities j 0) (3 + 4 * j)
-unfolding maturities volumeMaturities entries slotsFrom slots
-rate-slot j h =
-    sym (getD-drop 1 slots j noSlot) ∙ slots-of-kind rate 3 maturities (map (entry volume) volumeMaturities ++ entry ultimate 0 ∷ entry limit 0 ∷ []) j h
+  pub slots-most : length (slotsOf l) ≤ 26
+  unfolding maturities volumeMaturities firstEntries entriesOf slotsFrom slotsOf
+  slots-most = go (l .phased)
+    where
+      go : (phased : Bool) → length (slotsOf (record { phased = phased })) ≤ 26
+      go true = omega arith
+      go false = omega arith
 
-pub volume-slot : (j : ℕ) → j < 5 → slotAt (18 + j) ≡ slot volume (getD maturities (12 + j) 0) (71 + 6 * j)
-unfolding maturities volumeMaturities entries slotsFrom slots
-volume-slot j h =
-    sym (getD-drop 18 slots j noSlot) ∙
-    slots-of-kind volume 71 volumeMaturities (entry ultimate 0 ∷ entry limit 0 ∷ []) j h ∙
-    ap (λ (m : ℕ). slot volume m (71 + 6 * j)) (getD-drop 12 maturities j 0)
+  pub slots-phased : l .phased ≡ true → 26 ≤ length (slotsOf l)
+  unfolding maturities volumeMaturities firstEntries entriesOf slotsFrom slotsOf
+  slots-phased e = rw e (omega arith)
 
-pub ultimate-slot : slotAt 23 ≡ slot ultimate 0 101
-unfolding maturities volumeMaturities entries slotsFrom slots
-ultimate-slot = refl
+  pub month-slot : slotAt l 0 ≡ slot month 0 0
+  unfolding maturities volumeMaturities firstEntries entriesOf slotsFrom slotsOf
+  month-slot = refl
 
-pub limit-slot : slotAt 24 ≡ slot limit 0 104
-unfolding maturities volumeMaturities entries slotsFrom slots
-limit-slot = refl
+  pub rate-slot : (j : ℕ) → j < 17 → slotAt l (1 + j) ≡ slot rate (getD maturities j 0) (3 + 4 * j)
+  unfolding maturities volumeMaturities firstEntries entriesOf slotsFrom slotsOf
+  rate-slot j h =
+      sym (getD-drop 1 (slotsOf l) j noSlot) ∙
+      slots-of-kind rate 3 maturities (map (entry volume) volumeMaturities ++ entry ultimate 0 ∷ entry limit 0 ∷ last (l .phased)) j h
+
+  pub volume-slot : (j : ℕ) → j < 5 → slotAt l (18 + j) ≡ slot volume (getD maturities (12 + j) 0) (71 + 6 * j)
+  unfolding maturities volumeMaturities firstEntries entriesOf slotsFrom slotsOf
+  volume-slot j h =
+      sym (getD-drop 18 (slotsOf l) j noSlot) ∙
+      slots-of-kind volume 71 volumeMaturities (entry ultimate 0 ∷ entry limit 0 ∷ last (l .phased)) j h ∙
+      ap (λ (m : ℕ). slot volume m (71 + 6 * j)) (getD-drop 12 maturities j 0)
+
+  pub ultimate-slot : slotAt l 23 ≡ slot ultimate 0 101
+  unfolding maturities volumeMaturities firstEntries entriesOf slotsFrom slotsOf
+  ultimate-slot = refl
+
+  pub limit-slot : slotAt l 24 ≡ slot limit 0 104
+  unfolding maturities volumeMaturities firstEntries entriesOf slotsFrom slotsOf
+  limit-slot = refl
+
+  pub phase-in-slot : l .phased ≡ true → slotAt l 25 ≡ slot phaseIn 0 109
+  unfolding maturities volumeMaturities firstEntries entriesOf slotsFrom slotsOf
+  phase-in-slot e = rw e
 
 -- ---- the first failure, one slot after the other
 
@@ -81,25 +104,27 @@ none-fails p i (t ∷ ts) e zero h = passed (p t) (firstFailure p (suc (suc i)) 
 none-fails p i (t ∷ ts) e (suc j) h =
     none-fails p (suc i) ts (passed (p t) (firstFailure p (suc (suc i)) ts) i e .1) j (le-of-suc-le-suc h)
 
--- ---- the 25 numbers
+-- ---- the numbers of all records
 
 mapped-at {ℓ ℓ′} : {A : Type ℓ} {B : Type ℓ′} (f : A → B) (l : List A) (i : ℕ) (a : A) (b : B) → i < length l → getD (map f l) i b ≡ f (getD l i a)
 mapped-at f [] i a b h = absurd (not-suc-le-zero h)
 mapped-at f (x ∷ l) zero a b h = refl
 mapped-at f (x ∷ l) (suc i) a b h = mapped-at f l i a b (le-of-suc-le-suc h)
 
-pub number-at : (s : List ℕ) (i : ℕ) (t : Slot) → i < 25 → slotAt i ≡ t → getD (allNumbers s) i (pos 0) ≡ numberOfRecord s t
-number-at s i t h e = rw (← e) (mapped-at (numberOfRecord s) slots i noSlot (pos 0) (rw slots-length h))
+module _ (s : List ℕ) where
+  pub number-at : (i : ℕ) (t : Slot) → i < length (slotsOf (layoutOf s)) → slotAt (layoutOf s) i ≡ t → getD (allNumbers s) i (pos 0) ≡ numberOfRecord s t
+  number-at i t h e = rw (← e) (mapped-at (numberOfRecord s) (slotsOf (layoutOf s)) i noSlot (pos 0) h)
 
-pub rates-length : (s : List ℕ) → length (take 17 (drop 1 (allNumbers s))) ≡ 17
-rates-length s = simp (length-take, length-drop, length-map, slots-length)
+  pub rates-length : length (take 17 (drop 1 (allNumbers s))) ≡ 17
+  rates-length = simp (length-take, length-drop, length-map) (omega (arith, slots-least (layoutOf s)))
 
-pub rate-at : (s : List ℕ) (i : ℕ) (t : Slot) → i < 17 → slotAt (1 + i) ≡ t → getD (take 17 (drop 1 (allNumbers s))) i (pos 0) ≡ numberOfRecord s t
-rate-at s i t h e = rw (getD-take, getD-drop) (number-at s (1 + i) t (omega arith) e)
+  pub rate-at : (i : ℕ) (t : Slot) → i < 17 → slotAt (layoutOf s) (1 + i) ≡ t → getD (take 17 (drop 1 (allNumbers s))) i (pos 0) ≡ numberOfRecord s t
+  rate-at i t h e = rw (getD-take, getD-drop) (number-at (1 + i) t (omega (arith, slots-least (layoutOf s))) e)
 
-pub volumes-length : (s : List ℕ) → length (map natAbs (take 5 (drop 18 (allNumbers s)))) ≡ 5
-volumes-length s = simp (length-take, length-drop, length-map, slots-length)
+  pub volumes-length : length (map natAbs (take 5 (drop 18 (allNumbers s)))) ≡ 5
+  volumes-length = simp (length-take, length-drop, length-map) (omega (arith, slots-least (layoutOf s)))
 
-pub volume-at : (s : List ℕ) (i : ℕ) (t : Slot) → i < 5 → slotAt (18 + i) ≡ t →
-    getD (map natAbs (take 5 (drop 18 (allNumbers s)))) i 0 ≡ natAbs (numberOfRecord s t)
-volume-at s i t h e = rw (List·getD-map natAbs _ i (pos 0), getD-take, getD-drop) (ap natAbs (number-at s (18 + i) t (omega arith) e))
+  pub volume-at : (i : ℕ) (t : Slot) → i < 5 → slotAt (layoutOf s) (18 + i) ≡ t →
+      getD (map natAbs (take 5 (drop 18 (allNumbers s)))) i 0 ≡ natAbs (numberOfRecord s t)
+  volume-at i t h e =
+      rw (List·getD-map natAbs _ i (pos 0), getD-take, getD-drop) (ap natAbs (number-at (18 + i) t (omega (arith, slots-least (layoutOf s))) e))

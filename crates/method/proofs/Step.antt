@@ -48,11 +48,11 @@ pub expSum-zero : (n : ℕ) → expSum n (natℚ 0) ≈ natℚ 1
 unfolding expSum
 expSum-zero n = subst (λ (k : ℕ). sumℚ (λ i. powℚ (natℚ 0) i ÷ natℚ (factorial i)) k ≈ natℚ 1) (omega arith) (terms-at-0 (12 + n))
 
-cond-true : (c : Bool) (x y : ℚ) → T c → cond c x y ≡ x
+pub cond-true : (c : Bool) (x y : ℚ) → T c → cond c x y ≡ x
 cond-true true x y t = refl
 cond-true false x y t = absurd t
 
-cond-false : (c : Bool) (x y : ℚ) → (T c → ⊥) → cond c x y ≡ y
+pub cond-false : (c : Bool) (x y : ℚ) → (T c → ⊥) → cond c x y ≡ y
 cond-false true x y f = absurd (f tt)
 cond-false false x y f = refl
 
@@ -80,7 +80,7 @@ growth-positive : (round : ℕ → ℕ → ℕ) (y : ℕ) → 0 < growth round y
 unfolding growth
 growth-positive round y = omega arith
 
-ratio-is : (y : ℚ) {e : ℚ} → Positive e → (y *ℚ billion) ÷ (billion *ℚ e) ≈ y *ℚ recip e
+pub ratio-is : (y : ℚ) {e : ℚ} → Positive e → (y *ℚ billion) ÷ (billion *ℚ e) ≈ y *ℚ recip e
 ratio-is y {e} h = ≈-sym (÷-unique (*ℚ-positive (natℚ-positive U-positive) h) times)
   where
     times : (y *ℚ recip e) *ℚ (billion *ℚ e) ≈ y *ℚ billion
@@ -204,22 +204,22 @@ extrapolate-highs l f (κ ∷ κs) year p e (suc i) =
 
 -- ---- enclosure, for every order and every list of κ pairs
 
-pub extrapolate-encloses : (n : ℕ) (l f : SignedPair) {x y : ℚ} → Within 250_000_000 l → Within 250_000_000 f →
+pub extrapolate-encloses : (n : ℕ) (α : ℚ) (l f : SignedPair) {x y : ℚ} → Within 250_000_000 l → Within 250_000_000 f →
     Encloses (l .low) (l .high) x → Encloses (f .low) (f .high) y →
     (κs : List Pair) (h year : ℕ) (p : Pair) {q : ℚ} {qs : List Pair} →
-    ((i : ℕ) → i < length κs → Weighs (getD κs i (pair 0 0)) (convergence n (h + i))) →
+    ((i : ℕ) → i < length κs → Weighs (getD κs i (pair 0 0)) (convergence n α (h + i))) →
     Encloses (pos (p .low)) (pos (p .high)) q → extrapolate l f κs year p ≡ done qs →
-    AllEnclosed qs (extrapolated n x y h (length κs) q)
+    AllEnclosed qs (extrapolated n α x y h (length κs) q)
 unfolding extrapolated yearForward
-extrapolate-encloses n l f bl bf hl hf [] h year p w hp e = rw (← no-years l f year p e) none
-extrapolate-encloses n l f bl bf hl hf (κ ∷ κs) h year p w hp e =
+extrapolate-encloses n α l f bl bf hl hf [] h year p w hp e = rw (← no-years l f year p e) none
+extrapolate-encloses n α l f bl bf hl hf (κ ∷ κs) h year p w hp e =
     let ys = years l f κ κs year p e in
-    let weighs : Weighs κ (convergence n h) = rw add-zero at (w 0 (zero-lt-suc _)) in
+    let weighs : Weighs κ (convergence n α h) = rw add-zero at (w 0 (zero-lt-suc _)) in
     let bound = forward-bound l f κ (weight-ordered weighs) (weighs .at-most-U) bl bf in
     let next = step-encloses n (forward l f κ) p bound (forward-encloses l f κ hl hf weighs) hp in
     rw (← ys .is)
     (more next
-    (extrapolate-encloses n l f bl bf hl hf κs (suc h) (year + 1) (step (forward l f κ) p)
+    (extrapolate-encloses n α l f bl bf hl hf κs (suc h) (year + 1) (step (forward l f κ) p)
     (λ i k. rw (suc-add h i, ← add-suc h i) (w (suc i) (suc-le-suc k)))
     next
     (ys .rest)))

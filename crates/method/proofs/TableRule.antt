@@ -15,7 +15,7 @@ use Rattle.fraction.specs.Rounding.{U}
 use Rattle.fraction.proofs.Order.{≤ℚ-trans, ≤ℚ-≈-trans, ≈-≤ℚ-trans, ≈→≤, ≈→≥, ≈-sym, ≈-trans, <ℚ-≤ℚ-trans}
 use Rattle.fraction.proofs.Order.{≤ℚ-<ℚ-trans, nonNegative-up, positive→nonNegative, positive-up}
 use Rattle.fraction.proofs.Sum.{+ℚ-mono-right, negℚ-anti}
-use Rattle.fraction.proofs.Product.{*ℚ-cong-left, *ℚ-mono, *ℚ-mono-right, *ℚ-cancel-≤-left, *ℚ-cancel-<-left}
+use Rattle.fraction.proofs.Product.{*ℚ-cong-left, *ℚ-cong-right, *ℚ-mono, *ℚ-mono-right, *ℚ-cancel-≤-left, *ℚ-cancel-<-left}
 use Rattle.fraction.proofs.Quotient.{recip-anti, ÷-nonNegative}
 use Rattle.fraction.proofs.Power.{powℚ-mono, powℚ-*ℚ, natℚ-^}
 use Rattle.fraction.proofs.Integer.{natℚ-nonNegative, natℚ-positive, natℚ-mono, natℚ-strict, natℚ-reflects, natℚ-*, natℚ-∸}
@@ -156,7 +156,7 @@ rule-at D a b ks t e h l = wholePart-is e h (getD ks h 0) (every-at (wholePart D
 
 -- ---- the ends of q = e^-(1/10), at every order: from the sum to term 12, and from that with its tail
 
-abbrev tenth : ℚ
+abbrev pub tenth : ℚ
 tenth = natℚ 1 ÷ natℚ 10
 
 abbrev pub decayScale : ℕ
@@ -184,7 +184,7 @@ sum-positive : natℚ 1 ≤ℚ sumℚ (expTerm tenth) 13
 unfolding computes factorial
 sum-positive = leℚ→≤ tt
 
-pub decay-ends : (n : ℕ) → Ends decayScale decayLow decayHigh (decay n)
+pub decay-ends : (n : ℕ) → Ends decayScale decayLow decayHigh (decay n tenth)
 unfolding decay
 decay-ends n =
     let p : NonNegative tenth = ÷-nonNegative (natℚ 10) (natℚ-nonNegative 1) in
@@ -210,17 +210,22 @@ table-test : every (wholePart decayScale decayLow decayHigh) 0 table ≡ true
 unfolding every table
 table-test = refl
 
-pub convergence-suc : (n h : ℕ) → convergence n (suc h) ≡ natℚ 10 *ℚ powℚ (decay n) h *ℚ (natℚ 1 -ℚ decay n)
+recip-tenth : recip tenth ≈ natℚ 10
+unfolding computes
+recip-tenth = omega arith
+
+convergence-at : (n h : ℕ) → natℚ 10 *ℚ powℚ (decay n tenth) h *ℚ (natℚ 1 -ℚ decay n tenth) ≈ convergence n tenth (suc h)
 unfolding convergence
-convergence-suc n h =
+convergence-at n h =
     let same : suc h - 1 ≡ h = omega arith in
-    ap (λ (k : ℕ). natℚ 10 *ℚ powℚ (decay n) k *ℚ (natℚ 1 -ℚ decay n)) same
+    rw same (*ℚ-cong-left (natℚ 1 -ℚ decay n tenth) (*ℚ-cong-left (powℚ (decay n tenth) h) (≈-sym recip-tenth)))
 
 pub table-rule : (n h : ℕ) → h < 130 →
-    (natℚ (getD table h 0) ≤ℚ billion *ℚ convergence n (suc h)) × (billion *ℚ convergence n (suc h) <ℚ natℚ (getD table h 0 + 1))
+    (natℚ (getD table h 0) ≤ℚ billion *ℚ convergence n tenth (suc h)) × (billion *ℚ convergence n tenth (suc h) <ℚ natℚ (getD table h 0 + 1))
 table-rule n h l =
     let w = rule-at decayScale decayLow decayHigh table table-test (decay-ends n) h (rw table-length l) in
-    rw (convergence-suc n h) (w .below, w .above)
+    let e = *ℚ-cong-right billion (convergence-at n h) in
+    (≤ℚ-≈-trans (w .below) e, ≤ℚ-<ℚ-trans (≈→≥ e) (w .above))
 
 -- no entry reaches U, and past the end is 0
 table-small : every (λ h K. ltb K U) 0 table ≡ true

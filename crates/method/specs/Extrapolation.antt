@@ -1,10 +1,10 @@
 -- SPECIFICATION 5: extrapolated years 21 to 150, with grounds 8 and 10.
 use mathlib.Core.Bool.{cond}
 use mathlib.Core.List.{List, [], _∷_, map}
-use Prim.Native.Nat.{ℕ, suc, _+_, _*_, _-_, _/_}
-use lib.Dec.{leb}
-use lib.IntN.{ℤ, pos, negsuc, _+ℤ_, _*ℤ_}
-use lib.ListN.{getD}
+use Prim.Native.Nat.{ℕ, zero, suc, _+_, _*_, _-_, _/_}
+use lib.Dec.{leb, eqb}
+use lib.IntN.{ℤ, pos, negsuc, natAbs, _+ℤ_, _-ℤ_, _*ℤ_}
+use lib.ListN.{getD, take}
 use lib.Signed.{leZ}
 use Rattle.fraction.specs.Rounding.{U, floor, ceiling, ceilDiv}
 use Rattle.method.specs.Units.{Pair, pair, SignedPair, signedPair}
@@ -12,6 +12,7 @@ use Rattle.method.specs.Grounds.{highAboveLimit, Outcome, done, _>>=_, d
 use Rattle.method.specs.Sheet.{total}
 use Rattle.method.specs.Quotes.{highestFactor}
 use Rattle.method.specs.Series.{growthLow, growthHigh}
+use Rattle.method.specs.Table.{table}
 
 -- ---- LLFR, from the volumes at 20, 25, 30, 40, 50 and the lows, or the highs, of g1 to g5
 
@@ -40,17 +41,60 @@ llfr vs gs =
     (floor (llfrNumerator vs (map (λ g. g .low) gs)) (12 * total vs))
     (ceiling (llfrNumerator vs (map (λ g. g .high) gs)) (12 * total vs))
 
--- ---- the year's forward
-
--- L × (U - κ) + LLFR × κ
-abbrev pub blend : ℤ → ℤ → ℕ → ℤ
-blend l f κ = l *ℤ pos (U - κ) +ℤ f *ℤ pos κ
+-- ---- the convergence factor of the phase-in, in hundred-millionths: 10,000,000 is 10%
 
 abbrev pub smaller : ℤ → ℤ → ℤ
 smaller a b = cond (leZ a b) a b
 
 abbrev pub larger : ℤ → ℤ → ℤ
 larger a b = cond (leZ a b) b a
+
+-- a rate, cut to -500 to 500
+abbrev pub cut : ℤ → ℤ
+cut r = larger (negsuc 499) (smaller r (pos 500))
+
+-- 10,000,000 + (X - 10,000) × (500 - r)
+unfoldable pub convergenceFactor : ℕ → ℤ → ℕ
+convergenceFactor x r = 10_000_000 + (x - 10_000) * natAbs (pos 500 -ℤ cut r)
+
+-- ---- κ: a low and a high of U × k(h), for h from 1 to `count`
+
+-- K(h) and K(h) + 1
+unfoldable pub κPairs : List ℕ → List Pair
+κPairs ks = map (λ k. pair k (k + 1)) ks
+
+-- each step is rounded outward: a × b / U
+abbrev pub scaled : Pair → Pair → Pair
+scaled a b = pair (a .low * b .low / U) (ceilDiv (a .high * b .high) U)
+
+-- q = U × U / E at 10 × a
+unfoldable pub decayPair : ℕ → Pair
+decayPair a = pair (U * U / growthHigh (10 * a)) (ceilDiv (U * U) (growthLow (10 * a)))
+
+-- M = (U - q) × 100,000,000 / a
+unfoldable pub scalePair : ℕ → Pair → Pair
+scalePair a q = pair ((U - q .high) * 100_000_000 / a) (ceilDiv ((U - q .low) * 100_000_000) a)
+
+-- the high is cut to U
+abbrev pub cutToUnit : Pair → Pair
+cutToUnit k = pair (k .low) (cond (leb (k .high) U) (k .high) U)
+
+-- k(h) = P(h - 1) × M / U, from P(h - 1) on; P(h) = P(h - 1) × q / U
+unfoldable pub weightsFrom : Pair → Pair → Pair → ℕ → List Pair
+weightsFrom q m p zero = []
+weightsFrom q m p (suc count) = cutToUnit (scaled p m) ∷ weightsFrom q m (scaled p q) count
+
+-- at exactly 10% the table
+unfoldable pub weights : ℕ → ℕ → List Pair
+weights a count =
+    let q = decayPair a in
+    cond (eqb a 10_000_000) (take count (κPairs table)) (weightsFrom q (scalePair a q) (pair U U) count)
+
+-- ---- the year's forward
+
+-- L × (U - κ) + LLFR × κ
+abbrev pub blend : ℤ → ℤ → ℕ → ℤ
+blend l f κ = l *ℤ pos (U - κ) +ℤ f *ℤ pos κ
 
 -- the smaller of the results for the two ends of κ on lows, the larger on highs
 unfoldable pub forward : SignedPair → SignedPair → Pair → SignedPair
@@ -83,10 +127,6 @@ extrapolate l f (κ ∷ κs) year p = do
   _ ← demand (leb (next .high) highestFactor) (highAboveLimit year)
   later ← extrapolate l f κs (year + 1) next
   done (next ∷ later)
-
--- K(h) and K(h) + 1
-unfoldable pub κPairs : List ℕ → List Pair
-κPairs ks = map (λ k. pair k (k + 1)) ks
 
 -- ---- ground 10: the first year whose band passes the limit, counted on from `year`; 0 where none does
 unfoldable pub firstTooWide : ℕ → ℕ → List Pair → ℕ

@@ -8,6 +8,7 @@ pub mod Series
 pub mod Table
 pub mod Extrapolation
 pub mod Curve
+pub mod Earlier
 pub mod Figures
 pub mod True
 pub mod Enclosure

@@ -32,6 +32,8 @@ pub record NumbersInRange (n : Numbers) : Type 0 where
   pub ultimate-most : n .ultimate ≤ 10_000
   pub limit-least : 1 ≤ n .limit
   pub limit-most : n .limit ≤ 100_000
+  pub phase-in-least : 10_000 ≤ n .phaseIn
+  pub phase-in-most : n .phaseIn ≤ 20_000
 
 -- ---- factors
 

@@ -9,7 +9,7 @@ use lib.Signed.{leZ}
 use Rattle.method.specs.Bytes.{bigEndian}
 use Rattle.method.specs.Grounds.{wrongLength, wrongRecord, outOfRange, noVolume, Outcome, done, _>>=_, demand}
 
--- ---- the 25 records
+-- ---- the records
 
 pub data Kind : Type 0 where
   month : Kind
@@ -17,6 +17,7 @@ pub data Kind : Type 0 where
   volume : Kind
   ultimate : Kind
   limit : Kind
+  phaseIn : Kind
 
 abbrev pub kindByte : Kind → ℕ
 kindByte month = 0x01
@@ -24,6 +25,7 @@ kindByte rate = 0x02
 kindByte volume = 0x03
 kindByte ultimate = 0x04
 kindByte limit = 0x05
+kindByte phaseIn = 0x06
 
 -- the maturity's bytes and the number's: together the body
 abbrev pub maturityBytes : Kind → ℕ
@@ -32,6 +34,7 @@ maturityBytes rate = 1
 maturityBytes volume = 1
 maturityBytes ultimate = 0
 maturityBytes limit = 0
+maturityBytes phaseIn = 0
 
 abbrev pub numberBytes : Kind → ℕ
 numberBytes month = 2
@@ -39,6 +42,7 @@ numberBytes rate = 2
 numberBytes volume = 4
 numberBytes ultimate = 2
 numberBytes limit = 4
+numberBytes phaseIn = 2
 
 abbrev pub bodyLength : Kind → ℕ
 bodyLength k = maturityBytes k + numberBytes k
@@ -49,6 +53,7 @@ lowest rate = negsuc 1_999
 lowest volume = pos 0
 lowest ultimate = pos 0
 lowest limit = pos 1
+lowest phaseIn = pos 10_000
 
 abbrev pub highest : Kind → ℤ
 highest month = pos 2_399
@@ -56,6 +61,7 @@ highest rate = pos 12_000
 highest volume = pos 1_000_000
 highest ultimate = pos 10_000
 highest limit = pos 100_000
+highest phaseIn = pos 20_000
 
 unfoldable pub maturities : List ℕ
 maturities = 1 ∷ 2 ∷ 3 ∷ 4 ∷ 5 ∷ 6 ∷ 7 ∷ 8 ∷ 9 ∷ 10 ∷ 12 ∷ 15 ∷ 20 ∷ 25 ∷ 30 ∷ 40 ∷ 50 ∷ []
@@ -71,9 +77,34 @@ pub record Entry : Type 0 where
 abbrev pub entry : Kind → ℕ → Entry
 entry k m = record { kind = k; maturity = m }
 
-unfoldable pub entries : List Entry
-entries =
+-- the 25 records that every sheet has
+unfoldable pub firstEntries : List Entry
+firstEntries =
     entry month 0 ∷ map (entry rate) maturities ++ map (entry volume) volumeMaturities ++ entry ultimate 0 ∷ entry limit 0 ∷ []
+
+unfoldable pub total : List ℕ → ℕ
+total [] = 0
+total (n ∷ ns) = n + total ns
+
+-- how many bytes some records have, with their kind bytes
+unfoldable pub bytesOf : List Entry → ℕ
+bytesOf es = total (map (λ e. 1 + bodyLength (e .kind)) es)
+
+-- ---- the layout: which records a sheet has
+
+-- whether the phase-in's record stands last
+pub record Layout : Type 0 where
+  pub phased : Bool
+
+-- chosen by the sheet's bytes: past the 25 records more can only be the phase-in's
+unfoldable pub layoutOf : List ℕ → Layout
+layoutOf s = record { phased = ltb (bytesOf firstEntries) (length s) }
+
+unfoldable pub entriesOf : Layout → List Entry
+entriesOf l = firstEntries ++ cond (l .phased) (entry phaseIn 0 ∷ []) []
+
+unfoldable pub sizeOf : Layout → ℕ
+sizeOf l = bytesOf (entriesOf l)
 
 -- a slot: the kind and the maturity that are due there, and the byte at which its record starts
 pub record Slot : Type 0 where
@@ -86,8 +117,8 @@ unfoldable pub slotsFrom : ℕ → List Entry → List Slot
 slotsFrom s [] = []
 slotsFrom s (e ∷ es) = record { kind = e .kind; maturity = e .maturity; start = s } ∷ slotsFrom (s + 1 + bodyLength (e .kind)) es
 
-unfoldable pub slots : List Slot
-slots = slotsFrom 0 entries
+unfoldable pub slotsOf : Layout → List Slot
+slotsOf l = slotsFrom 0 (entriesOf l)
 
 abbrev pub slot : Kind → ℕ → ℕ → Slot
 slot k m s = record { kind = k; maturity = m; start = s }
@@ -97,8 +128,8 @@ abbrev pub noSlot : Slot
 noSlot = slot month 0 0
 
 -- the slot at index i
-abbrev pub slotAt : ℕ → Slot
-slotAt i = getD slots i noSlot
+abbrev pub slotAt : Layout → ℕ → Slot
+slotAt l i = getD (slotsOf l) i noSlot
 
 -- ---- a record's body and number
 
@@ -115,6 +146,7 @@ reading rate n = twosComplement16 n
 reading volume n = pos n
 reading ultimate n = pos n
 reading limit n = pos n
+reading phaseIn n = pos n
 
 abbrev pub numberOfRecord : List ℕ → Slot → ℤ
 numberOfRecord s t = reading (t .kind) (bigEndian 0 (drop (maturityBytes (t .kind)) (bodyOf s t)))
@@ -127,6 +159,7 @@ maturityRight rate m body = eqb (getD body 0 0) m
 maturityRight volume m body = eqb (getD body 0 0) m
 maturityRight ultimate m body = true
 maturityRight limit m body = true
+maturityRight phaseIn m body = true
 
 abbrev pub rightRecord : List ℕ → Slot → Bool
 rightRecord s t = eqb (getD s (t .start) 0) (kindByte (t .kind)) && maturityRight (t .kind) (t .maturity) (bodyOf s t)
@@ -139,10 +172,6 @@ unfoldable pub firstFailure : (Slot → Bool) → ℕ → List Slot → ℕ
 firstFailure p i [] = 0
 firstFailure p i (t ∷ ts) = let rest = firstFailure p (suc i) ts in cond (p t) rest i
 
-unfoldable pub total : List ℕ → ℕ
-total [] = 0
-total (n ∷ ns) = n + total ns
-
 -- the sheet's numbers
 pub record Numbers : Type 0 where
   pub month : ℕ
@@ -150,27 +179,31 @@ pub record Numbers : Type 0 where
   pub volumes : List ℕ
   pub ultimate : ℕ
   pub limit : ℕ
+  pub phaseIn : ℕ
 
-abbrev pub numbersOf : List ℤ → Numbers
-numbersOf zs =
+-- a sheet without the phase-in's record counts as one with 10,000
+abbrev pub numbersOf : Layout → List ℤ → Numbers
+numbersOf l zs =
     record {
       month = natAbs (getD zs 0 (pos 0));
       rates = take 17 (drop 1 zs);
       volumes = map natAbs (take 5 (drop 18 zs));
       ultimate = natAbs (getD zs 23 (pos 0));
       limit = natAbs (getD zs 24 (pos 0));
+      phaseIn = cond (l .phased) (natAbs (getD zs 25 (pos 0))) 10_000;
     }
 
--- the numbers of the 25 records
+-- the numbers of all records
 abbrev pub allNumbers : List ℕ → List ℤ
-allNumbers s = map (numberOfRecord s) slots
+allNumbers s = map (numberOfRecord s) (slotsOf (layoutOf s))
 
 abbrev pub sheetNumbers : List ℕ → Numbers
-sheetNumbers s = numbersOf (allNumbers s)
+sheetNumbers s = numbersOf (layoutOf s) (allNumbers s)
 
 unfoldable pub readSheet : List ℕ → Outcome Numbers
 readSheet s = do
-  _ ← demand (eqb (length s) 109) wrongLength
+  let slots = slotsOf (layoutOf s)
+  _ ← demand (eqb (length s) (sizeOf (layoutOf s))) wrongLength
   let wrong = firstFailure (rightRecord s) 1 slots
   _ ← demand (eqb wrong 0) (wrongRecord wrong)
   let outside = firstFailure (inRange s) 1 slots

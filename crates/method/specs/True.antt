@@ -4,7 +4,7 @@ use mathlib.Core.Bool.{Bool, cond}
 use mathlib.Core.List.{List, [], _∷_, _++_, map}
 use Prim.Native.Nat.{ℕ, zero, suc, _+_, _*_, _-_, _^_}
 use lib.Dec.{eqb}
-use lib.IntN.{ℤ}
+use lib.IntN.{ℤ, pos}
 use lib.ListN.{length, take, drop, getD}
 use Rattle.fraction.specs.Fraction.{ℚ, leℚ, natℚ, intℚ, negℚ, _+ℚ_, _-ℚ_, _*ℚ_, _÷_, recip, powℚ, sumℚ}
 use Rattle.method.specs.Sheet.{Numbers, maturities}
@@ -140,33 +140,47 @@ lastLiquidForward vs fs = weighted vs (natℚ (yearsTotal vs)) (marketForwards f
 
 -- ---- the extrapolated part
 
--- k(h) = h B(a,h) - (h-1) B(a,h-1) at a = 1/10, which is 10 q^(h-1) (1 - q) with q = e^-a
-unfoldable pub decay : ℕ → ℚ
-decay n = recip (expSum n (natℚ 1 ÷ natℚ 10))
+-- the convergence factor α by the interest rate r at 20 years: ten percent when it is 0.5% or higher, X when it is -0.5% or lower,
+-- linearly interpolated between 10% and X when it is between
+unfoldable pub speed : ℚ → ℚ → ℚ
+speed x r =
+    let ten = natℚ 1 ÷ natℚ 10 in
+    let half = natℚ 1 ÷ natℚ 200 in
+    let way = (half -ℚ r) ÷ (half +ℚ half) in
+    cond (leℚ half r) ten (cond (leℚ r (negℚ half)) x (ten +ℚ (x -ℚ ten) *ℚ way))
 
-unfoldable pub convergence : ℕ → ℕ → ℚ
-convergence n h = natℚ 10 *ℚ powℚ (decay n) (h - 1) *ℚ (natℚ 1 -ℚ decay n)
+-- k(h) = h B(α,h) - (h-1) B(α,h-1), which is 1/α q^(h-1) (1 - q) with q = e^-α
+unfoldable pub decay : ℕ → ℚ → ℚ
+decay n α = recip (expSum n α)
+
+unfoldable pub convergence : ℕ → ℚ → ℕ → ℚ
+convergence n α h = recip α *ℚ powℚ (decay n α) (h - 1) *ℚ (natℚ 1 -ℚ decay n α)
 
 -- ln(1 + UFR) + (LLFR - ln(1 + UFR)) k(h)
-unfoldable pub yearForward : ℕ → ℚ → ℚ → ℕ → ℚ
-yearForward n l f h = l +ℚ (f -ℚ l) *ℚ convergence n h
+unfoldable pub yearForward : ℕ → ℚ → ℚ → ℚ → ℕ → ℚ
+yearForward n α l f h = l +ℚ (f -ℚ l) *ℚ convergence n α h
 
 -- year 20 + h is the year before times e to minus its forward
-unfoldable pub extrapolated : ℕ → ℚ → ℚ → ℕ → ℕ → ℚ → List ℚ
-extrapolated n l f h zero p = []
-extrapolated n l f h (suc c) p =
-    let next = p *ℚ exp n (negℚ (yearForward n l f h ÷ billion)) in
-    next ∷ extrapolated n l f (suc h) c next
+unfoldable pub extrapolated : ℕ → ℚ → ℚ → ℚ → ℕ → ℕ → ℚ → List ℚ
+extrapolated n α l f h zero p = []
+extrapolated n α l f h (suc c) p =
+    let next = p *ℚ exp n (negℚ (yearForward n α l f h ÷ billion)) in
+    next ∷ extrapolated n α l f (suc h) c next
+
+-- from the quoted years and LLFR, on to year 150
+unfoldable pub toLastYear : ℕ → Numbers → ℚ → List ℚ → List ℚ
+toLastYear n s f quoted =
+    let α = speed (natℚ (s .phaseIn) ÷ natℚ 100_000) (intℚ (getD (s .rates) 12 (pos 0)) ÷ natℚ 100_000) in
+    let ultimate = negℚ (minusLog n (billion *ℚ (natℚ 1 +ℚ natℚ (s .ultimate) ÷ natℚ 100_000))) in
+    quoted ++ extrapolated n α ultimate f 1 (150 - length quoted) (lastFactor quoted)
 
 -- ---- the curve
 
 unfoldable pub trueCurve : ℕ → Numbers → List ℚ
 trueCurve n s =
     let l = liquid n maturities (s .rates) in
-    let upTo20 = take 20 (l .factors) in
     let f = lastLiquidForward (s .volumes) (map (minusLog n) (drop 2 (l .yearly))) in
-    let ultimate = negℚ (minusLog n (billion *ℚ (natℚ 1 +ℚ natℚ (s .ultimate) ÷ natℚ 100_000))) in
-    upTo20 ++ extrapolated n ultimate f 1 130 (lastFactor upTo20)
+    toLastYear n s f (take 20 (l .factors))
 
 -- the true factor of order n of a year, from 1
 unfoldable pub trueFactor : ℕ → Numbers → ℕ → ℚ
