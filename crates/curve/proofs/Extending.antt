@@ -6,13 +6,12 @@ use native.Mathlib.Omega.{arith}
 use lib.ListN.{length, take, drop, getD, replicate, List·getD-append}
 use lib.Seq.{take-all, take-at, length-take-le, getD-take, getD-drop}
 use lib.Signed.{_≤ℤ_}
-use Rattle.method.specs.Units.{pair, pairsOf, SignedPair}
+use Rattle.method.specs.Units.{Pair, pair, pairsOf, SignedPair}
 use Rattle.method.specs.Sheet.{Numbers}
 use Rattle.method.specs.Quotes.{lastYear}
 use Rattle.method.specs.Series.{ultimateForward}
-use Rattle.method.specs.Table.{table}
-use Rattle.method.specs.Extrapolation.{llfr, extrapolate, κPairs}
-use Rattle.method.specs.Curve.{smoothingYear, gapForwards}
+use Rattle.method.specs.Extrapolation.{llfr, weights, extrapolate}
+use Rattle.method.specs.Curve.{smoothingYear, factorOf, gapForwards}
 use Rattle.method.specs.Ranges.{forwardBound, YearlyFactor}
 use Rattle.method.proofs.QuotesBounds.{bootstrap-bounded, bootstrap-length}
 use Rattle.method.proofs.Zips.{zip-take, zip-drop, pairs-last, pairs-each}
@@ -80,16 +79,17 @@ module _ {n : Numbers} {q : Liquid} (w : WorkedQuotes n q) where
         rw (all-factors, zip-take pair smoothingYear (q .lows) (q .highs))
         (pairs-last (q .lows) (q .highs) (same-length (w .sound)) 19 (omega (arith, w .sound .long-lows)) ∙ sym at-20)
 
-    pub extends : (r : Extended) {l f : SignedPair} → l ≡ ultimateForward (n .ultimate) → f ≡ llfr (n .volumes) (gapForwards (asBootstrap q)) →
-        asOutcome (r .verdict) (drop 20 (asYears (r .years))) ≡ extrapolate l f (κPairs table) (smoothingYear + 1) (factorAt y 19) → Kept y r → Extends n q r
-    extends r ul uf o k =
+    pub extends : (r : Extended) {l f : SignedPair} {κs : List Pair} → l ≡ ultimateForward (n .ultimate) → f ≡ llfr (n .volumes) (gapForwards (asBootstrap q)) →
+        κs ≡ weights (factorOf n) 130 →
+        asOutcome (r .verdict) (drop 20 (asYears (r .years))) ≡ extrapolate l f κs (smoothingYear + 1) (factorAt y 19) → Kept 20 y r → Extends n q r
+    extends r ul uf uκ o k =
         record {
           quoted =
               let lows = first-take (q .lows) (w .sound .long-lows) in
               let highs = first-take (q .highs) (w .sound .long-highs) in
               zip-take pair smoothingYear (r .years .lows) (r .years .highs)
               ∙ rw (k .quoted-lows, k .quoted-highs, el, eh, lows, highs, all-factors) (sym (zip-take pair smoothingYear (q .lows) (q .highs)));
-          later = o ∙ rw (ul, uf, last-quoted);
+          later = o ∙ rw (ul, uf, uκ, last-quoted);
         }
 
 -- ---- a forward by its definition

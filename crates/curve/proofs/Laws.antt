@@ -2,14 +2,15 @@
 use mathlib.Core.Path.{_≡_, refl}
 use mathlib.Core.List.{List}
 use Prim.Native.Nat.{ℕ}
-use lib.ListN.{length, take, drop, take-append-drop}
+use lib.ListN.{length, take, drop, take-append-drop, length-take}
 use borrow.Author.Tests.{eq-eqb, ne-eqb}
 use Rattle.method.specs.Units.{pair, pairsOf}
 use Rattle.method.specs.Grounds.{Ground, bandTooWide, refused, done, _>>=_}
 use Rattle.method.specs.Sheet.{Numbers, maturities}
 use Rattle.method.specs.Quotes.{Bootstrap, bootstrap, quotesOf}
 use Rattle.method.specs.Extrapolation.{firstTooWide}
-use Rattle.method.specs.Curve.{Curve, smoothingYear, curveOf}
+use Rattle.method.specs.Curve.{Curve, smoothingYear, withinLimit, extended, curveOf}
+use Rattle.method.proofs.QuotesBounds.{bootstrap-length}
 use Rattle.method.proofs.Zips.{zip-left, zip-right}
 use Rattle.curve.specs.Curves.{laterYears, banded}
 
@@ -36,15 +37,20 @@ module _ (n : Numbers) where
   unfolding curveOf
   quotes-refused e = rw e
 
-  module _ (b : Bootstrap) (d : bootstrap (quotesOf maturities (n .rates)) ≡ done b) where
+  module _ (b : Bootstrap) (d : bootstrap (quotesOf maturities (n .rates)) ≡ done b) (seventeen : length (n .rates) ≡ 17) where
+    -- the quoted years are 20
+    twenty : length (take smoothingYear (b .factors)) ≡ smoothingYear
+    twenty = simp (length-take, bootstrap-length (n .rates) seventeen d .0)
+
     pub later-refused : {g : Ground} → laterYears n b ≡ refused g → curveOf n ≡ refused g
-    unfolding curveOf
-    later-refused e = rw (d, e)
+    unfolding curveOf extended
+    later-refused e = rw (d, twenty, e)
 
     pub years-banded : (lows highs : List ℕ) → length lows ≡ length highs → take smoothingYear (pairsOf lows highs) ≡ take smoothingYear (b .factors) →
         laterYears n b ≡ done (drop smoothingYear (pairsOf lows highs)) → curveOf n ≡ banded (curveWith n lows highs)
-    unfolding curveOf
+    unfolding curveOf extended withinLimit
     years-banded lows highs same quoted later =
         let first = zip-left pair (λ p. p .low) (λ l h. refl) lows highs same in
         let second = zip-right pair (λ p. p .high) (λ l h. refl) lows highs same in
-        rw (d, later, ← quoted, take-append-drop smoothingYear (pairsOf lows highs), first, second)
+        rw (d, twenty, later, ← quoted, take-append-drop smoothingYear (pairsOf lows highs))
+        (judged-with (pairsOf lows highs) first second)

@@ -9,10 +9,9 @@ use Rattle.method.specs.Grounds.{bandTooWide, Outcome, done, _>>=_, demand}
 use Rattle.method.specs.Sheet.{Numbers, maturities}
 use Rattle.method.specs.Quotes.{Bootstrap, bootstrap, quotesOf, lastYear}
 use Rattle.method.specs.Series.{ultimateForward}
-use Rattle.method.specs.Table.{table}
-use Rattle.method.specs.Extrapolation.{llfr, extrapolate, κPairs, firstTooWide}
+use Rattle.method.specs.Extrapolation.{llfr, weights, extrapolate, firstTooWide}
 use Rattle.method.specs.Curve as method
-use Rattle.method.specs.Curve.{smoothingYear, gapForwards}
+use Rattle.method.specs.Curve.{smoothingYear, factorOf, gapForwards}
 use Rattle.method.specs.Ranges.{NumbersInRange}
 use Rattle.grounds.specs.Verdicts.{asOutcome}
 use Rattle.bootstrap.specs.declared.Liquid.{Liquid}
@@ -43,7 +42,7 @@ firstYears xs = take smoothingYear xs ++ replicate 130 0
 -- the years after them
 abbrev pub laterYears : Numbers → Bootstrap → Outcome (List Pair)
 laterYears n b =
-    extrapolate (ultimateForward (n .ultimate)) (llfr (n .volumes) (gapForwards b)) (κPairs table) (smoothingYear + 1)
+    extrapolate (ultimateForward (n .ultimate)) (llfr (n .volumes) (gapForwards b)) (weights (factorOf n) 130) (smoothingYear + 1)
     (lastYear (take smoothingYear (b .factors)))
 
 -- all years

@@ -11,7 +11,8 @@ ghost use Prim.Native.Nat.{_-_};
 ghost use lib.ListN.{drop};
 ghost use Rattle.method.specs.Ranges.{forwardBound, NumbersInRange};
 ghost use Rattle.method.specs.Extrapolation.{llfr, firstTooWide};
-ghost use Rattle.method.specs.Curve.{gapForwards, curveOf};
+ghost use Rattle.method.specs.Curve.{factorOf, gapForwards, curveOf};
+ghost use Rattle.convergence.specs.Weights.{Factor};
 ghost use Rattle.rounding.specs.Pairs.{asSignedPair, SizeAtMost};
 ghost use Rattle.grounds.specs.Verdicts.{asOutcome, resultOr};
 ghost use Rattle.sheet.specs.Views.{asNumbers};
@@ -21,6 +22,9 @@ ghost use Rattle.curve.specs.Curves.{asCurve, noCurve, firstYears, Worke
 
 // Years to it come from the quotes, all later ones from the extrapolation.
 const SMOOTHING_YEAR: usize = 20;
+
+// Its place among the quotes.
+const SMOOTHING_INDEX: usize = 12;
 
 const YEARS: usize = 150;
 
@@ -72,6 +76,14 @@ fn last_liquid_forward(n: Numbers, q: Liquid) -> SignedPair
     extrapolation::llfr(volumes, gaps)
 }
 
+// The sheet's convergence factor, by its phase-in and the quoted 20-year rate.
+fn factor_of(n: Numbers) -> u64
+    requires { ⌜ NumbersInRange (asNumbers n) ⌝ }
+    ensures { λ r. ⌜ (r ≡ factorOf (asNumbers n)) × Factor r ⌝ }
+{
+    convergence::factor(n.phase_in, n.rates[SMOOTHING_INDEX] as i64)
+}
+
 // The years to 20 from the quotes, and those to 150 after them.
 fn all_years(n: Numbers, q: Liquid) -> Extended
     requires { ⌜ WorkedQuotes (asNumbers n) q ⌝ }
@@ -79,7 +91,17 @@ fn all_years(n: Numbers, q: Liquid) -> Extended
 {
     let ultimate = series::ultimate_forward(n.ultimate);
     let liquid = last_liquid_forward(n, q);
-    extrapolation::extrapolate(ultimate, liquid, first_years(q))
+    let weights = convergence::weights_at(factor_of(n));
+    let lows = weights.lows;
+    let highs = weights.highs;
+    extrapolation::extrapolate(
+        ultimate,
+        liquid,
+        &lows,
+        &highs,
+        SMOOTHING_YEAR,
+        first_years(q),
+    )
 }
 
 // ---- ground 10

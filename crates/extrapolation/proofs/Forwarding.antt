@@ -2,14 +2,14 @@
 use mathlib.Core.Path.{_≡_, refl, subst⁻¹, _∙_}
 use mathlib.Core.Bool.{Bool, true, false, Bool·beq, cond}
 use mathlib.Core.List.{List}
-use Prim.Native.Nat.{ℕ, _+_, _*_, _^_, _≤_, _<_}
+use Prim.Native.Nat.{ℕ, _*_, _^_, _≤_, _<_}
 use native.Mathlib.Omega.{arith}
 use lib.IntN.{ℤ, pos, natAbs}
 use lib.ListN.{length}
 use lib.Signed.{mag, leZ}
 use Rattle.fraction.specs.Rounding.{U, roundℤ}
 use Rattle.method.specs.Units as method
-use Rattle.method.specs.Units.{pair, signedPair}
+use Rattle.method.specs.Units.{signedPair}
 use Rattle.method.specs.Ranges.{forwardBound}
 use Rattle.method.specs.Sheet.{total}
 use Rattle.method.specs.Extrapolation.{llfrNumerator, llfr, blend, forward}
@@ -20,7 +20,7 @@ use Rattle.rounding.specs.Pairs.{asSignedPair, SizeAtMost}
 use Rattle.rounding.specs.declared.SignedPair.{SignedPair}
 use Rattle.rounding.proofs.Machine.{stored, stored-is, returned}
 use Rattle.extrapolation.specs.declared.Forwards.{Forwards}
-use Rattle.extrapolation.specs.Extrapolated.{asForwards, outer, ForwardSizes}
+use Rattle.extrapolation.specs.Extrapolated.{asForwards, outer, ForwardSizes, WeightRange}
 
 -- ---- a pair's size, as the code and as the method have it
 
@@ -84,17 +84,17 @@ module _ (up : Bool) {a b x y : ℤ} (e : a ≡ x) (k : b ≡ y) where
   pub outer-second : Bool·beq (leZ a b) up ≡ true → b ≡ outer up x y
   outer-second t = rw (← e, ← k, outer-is up a b, t)
 
--- an end, for κ from k to k + 1
-abbrev forwardEnd : Bool → ℤ → ℤ → ℕ → ℤ
-forwardEnd up l f k = outer up (roundℤ up (blend l f k) U) (roundℤ up (blend l f (k + 1)) U)
+-- an end, for κ
+abbrev forwardEnd : Bool → ℤ → ℤ → method.Pair → ℤ
+forwardEnd up l f κ = outer up (roundℤ up (blend l f (κ .low)) U) (roundℤ up (blend l f (κ .high)) U)
 
-module _ (l f : SignedPair) (k : ℕ) (hl : SizeAtMost forwardBound l) (hf : SizeAtMost forwardBound f) (hk : k + 1 ≤ U) where
-  pub forward-is : {a b : ℤ} → a ≡ forwardEnd false (stored (l .low)) (stored (f .low)) k → mag a < 2 ^ 63 →
-      b ≡ forwardEnd true (stored (l .high)) (stored (f .high)) k → mag b < 2 ^ 63 →
-      (asSignedPair (built a b) ≡ forward (asSignedPair l) (asSignedPair f) (pair k (k + 1))) × SizeAtMost forwardBound (built a b)
+module _ (l f : SignedPair) (κ : method.Pair) (hl : SizeAtMost forwardBound l) (hf : SizeAtMost forwardBound f) (hκ : WeightRange κ) where
+  pub forward-is : {a b : ℤ} → a ≡ forwardEnd false (stored (l .low)) (stored (f .low)) κ → mag a < 2 ^ 63 →
+      b ≡ forwardEnd true (stored (l .high)) (stored (f .high)) κ → mag b < 2 ^ 63 →
+      (asSignedPair (built a b) ≡ forward (asSignedPair l) (asSignedPair f) κ) × SizeAtMost forwardBound (built a b)
   unfolding forward
   forward-is {a} {b} ea ha eb hb =
-      let low = ends-read (λ x y. forwardEnd false x y k) (l .low) (f .low) (hl .low-size) (hf .low-size) ea ha in
-      let high = ends-read (λ x y. forwardEnd true x y k) (l .high) (f .high) (hl .high-size) (hf .high-size) eb hb in
-      let e : asSignedPair (built a b) ≡ forward (asSignedPair l) (asSignedPair f) (pair k (k + 1)) = rw (low, high) in
-      (e, sized (built a b) e (forward-bound (asSignedPair l) (asSignedPair f) (pair k (k + 1)) (omega arith) hk (within l hl) (within f hf)))
+      let low = ends-read (λ x y. forwardEnd false x y κ) (l .low) (f .low) (hl .low-size) (hf .low-size) ea ha in
+      let high = ends-read (λ x y. forwardEnd true x y κ) (l .high) (f .high) (hl .high-size) (hf .high-size) eb hb in
+      let e : asSignedPair (built a b) ≡ forward (asSignedPair l) (asSignedPair f) κ = rw (low, high) in
+      (e, sized (built a b) e (forward-bound (asSignedPair l) (asSignedPair f) κ (hκ .ordered) (hκ .at-most-U) (within l hl) (within f hf)))

@@ -2,21 +2,18 @@
 use mathlib.Core.Path.{_≡_}
 use mathlib.Core.Bool.{Bool, true, false}
 use mathlib.Core.List.{List, zipWith}
-use Prim.Native.Nat.{ℕ, suc, _+_, _≤_, _<_}
+use Prim.Native.Nat.{ℕ, _+_, _-_, _≤_, _<_}
 use lib.IntN.{ℤ, pos, natAbs}
-use lib.ListN.{getD, take, drop}
+use lib.ListN.{length, getD, take, drop}
 use lib.Signed.{_≤ℤ_}
-use Rattle.fraction.specs.Fraction.{natℚ, _≤ℚ_, _<ℚ_, _*ℚ_}
 use Rattle.fraction.specs.Rounding.{U}
 use Rattle.method.specs.Units as method
 use Rattle.method.specs.Units.{pair, signedPair, pairsOf}
 use Rattle.method.specs.Grounds.{Outcome}
 use Rattle.method.specs.Quotes.{highestFactor}
 use Rattle.method.specs.Ranges.{forwardBound}
-use Rattle.method.specs.Table.{table}
-use Rattle.method.specs.Extrapolation.{smaller, larger, stepLow, stepHigh}
-use Rattle.method.specs.True.{billion, convergence}
-use Rattle.rounding.specs.Pairs.{SizeAtMost}
+use Rattle.method.specs.Extrapolation.{smaller, larger, stepLow, stepHigh, extrapolate}
+use Rattle.rounding.specs.Pairs.{asSignedPair, SizeAtMost}
 use Rattle.rounding.specs.declared.SignedPair.{SignedPair}
 use Rattle.grounds.specs.Verdicts.{asOutcome}
 use Rattle.grounds.specs.declared.Ground.{Ground}
@@ -33,9 +30,9 @@ asForwards g = zipWith signedPair (g .lows) (g .highs)
 abbrev pub asYears : Years → List method.Pair
 asYears y = pairsOf (y .lows) (y .highs)
 
--- entries 20 to 149 are the years 21 to 150
-abbrev pub asLater : Extended → Outcome (List method.Pair)
-asLater r = asOutcome (r .verdict) (drop 20 (asYears (r .years)))
+-- the years from an index on
+abbrev pub asLater : ℕ → Extended → Outcome (List method.Pair)
+asLater start r = asOutcome (r .verdict) (drop start (asYears (r .years)))
 
 abbrev pub factorAt : Years → ℕ → method.Pair
 factorAt y i = pair (getD (y .lows) i 0) (getD (y .highs) i 0)
@@ -50,14 +47,6 @@ outer false = smaller
 abbrev pub stepBy : Bool → ℤ → ℕ → ℕ
 stepBy true = stepHigh
 stepBy false = stepLow
-
--- ---- the table
-
--- r is the table's entry, below U, and at every order the whole part of U × k(i + 1)
-pub record Weight (i r : ℕ) : Type 0 where
-  pub tabled : r ≡ getD table i 0
-  pub below-U : r + 1 ≤ U
-  pub whole-part : (n : ℕ) → (natℚ r ≤ℚ billion *ℚ convergence n (suc i)) × (billion *ℚ convergence n (suc i) <ℚ natℚ (r + 1))
 
 -- ---- ranges
 
@@ -80,9 +69,28 @@ pub record Usable (f : SignedPair) : Type 0 where
   pub size : SizeAtMost forwardBound f
   pub ordered : f .low ≤ℤ f .high
 
--- beside the outcome: the years to 20 as they came, the worked ones in range; all as they came where a year was refused
-pub record Kept (years : Years) (r : Extended) : Type 0 where
-  pub quoted-lows : take 20 (r .years .lows) ≡ take 20 (years .lows)
-  pub quoted-highs : take 20 (r .years .highs) ≡ take 20 (years .highs)
-  pub worked-in-range : r .verdict ≡ Passed → (i : ℕ) → 20 ≤ i → i < 150 → InRange (factorAt (r .years) i)
+-- a pair of κ: U × k(h) for a k up to 1
+pub record WeightRange (κ : method.Pair) : Type 0 where
+  pub ordered : κ .low ≤ κ .high
+  pub at-most-U : κ .high ≤ U
+
+-- κ's pairs, one for each year from an index on to 150
+pub record Ahead (klows khighs : List ℕ) (start : ℕ) : Type 0 where
+  pub started : 1 ≤ start
+  pub to-150 : start + length klows ≡ 150
+  pub as-many : length khighs ≡ length klows
+  pub ranges : (i : ℕ) → i < length klows → WeightRange (pair (getD klows i 0) (getD khighs i 0))
+
+-- ---- the years
+
+-- the definition's, from the factor before them on
+abbrev pub Extrapolates : SignedPair → SignedPair → List ℕ → List ℕ → ℕ → Years → Extended → Type 0
+Extrapolates l f klows khighs start years r =
+    asLater start r ≡ extrapolate (asSignedPair l) (asSignedPair f) (pairsOf klows khighs) (start + 1) (factorAt years (start - 1))
+
+-- beside the outcome: the years to the start as they came, the worked ones in range; all as they came where a year was refused
+pub record Kept (start : ℕ) (years : Years) (r : Extended) : Type 0 where
+  pub quoted-lows : take start (r .years .lows) ≡ take start (years .lows)
+  pub quoted-highs : take start (r .years .highs) ≡ take start (years .highs)
+  pub worked-in-range : r .verdict ≡ Passed → (i : ℕ) → start ≤ i → i < 150 → InRange (factorAt (r .years) i)
   pub refused-as-came : (g : Ground) → r .verdict ≡ Refused g → r .years ≡ years

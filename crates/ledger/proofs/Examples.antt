@@ -5,10 +5,8 @@ use mathlib.Core.List.{List, [], _∷_, _++_}
 use Prim.Native.Nat.{ℕ}
 use native.Mathlib.Omega.{arith}
 use lib.ListN.{replicate, take, drop}
-use Rattle.method.specs.Bytes.{bytes2, bytes4}
 use Rattle.method.specs.Grounds.{afterToldMonth, beforeStandingCurve, monthBeforeTold, noCurve, bufferTooShort, Outcome, refused, done}
-use Rattle.method.specs.Sheet.{maturities, volumeMaturities}
-use Rattle.method.specs.Figures.{rateRecords, volumeRecords}
+use Rattle.method.specs.Figures.{sheetOf, rateRecords, volumeRecords}
 use Rattle.method.proofs.Computes.{computes}
 use Rattle.ledger.specs.Answers.{Finding, finding}
 use Rattle.ledger.specs.Page.{yearRecords, pageBytes}
@@ -19,12 +17,7 @@ use Rattle.ledger.specs.Tells.{bandOf, LookTells, PageTells}
 
 -- a sheet with all rates alike, volumes 1 and ultimate rate 0
 flat : ℕ → ℕ → List ℕ
-flat month rate =
-    0x01 ∷ bytes2 month
-    ++ rateRecords maturities (replicate 17 rate)
-    ++ volumeRecords volumeMaturities
-    ++ 0x04 ∷ bytes2 0
-    ++ 0x05 ∷ bytes4 100_000
+flat month rate = sheetOf month (replicate 17 rate) (replicate 5 1) 0 100_000
 
 february : List ℕ
 february = flat 1 0

@@ -8,23 +8,18 @@ use native.Mathlib.Omega.{arith}
 use borrow.Author.Tests.{le-ltb}
 use lib.IntN.{pos}
 use lib.ListN.{length, take, getD, length-take}
-use lib.Seq.{take-all}
 use Rattle.method.specs.Grounds.{Outcome, refused, done, _>>=_}
 use Rattle.method.specs.Sheet.{Numbers, maturities, volumeMaturities, total, firstEntries, bytesOf, layoutOf, sheetNumbers}
 use Rattle.method.specs.Quotes.{bootstrap, quotesOf, lastYear}
 use Rattle.method.specs.Series.{ultimateForward}
 use Rattle.method.specs.Table.{table}
-use Rattle.method.specs.Extrapolation.{llfr, κPairs, weights, extrapolate}
+use Rattle.method.specs.Extrapolation.{llfr, κPairs, extrapolate}
 use Rattle.method.specs.Curve.{smoothingYear, smoothingIndex, gapForwards, factorOf, withinLimit, extended, curveWith, curveOf}
 use Rattle.method.specs.Earlier.{tabledCurve}
 use Rattle.method.proofs.Outcome.{bind-assoc, bind-with}
 use Rattle.method.proofs.QuotesBounds.{bootstrap-length}
-use Rattle.method.proofs.Weights.{κ-length}
+use Rattle.method.proofs.Weights.{weights-tabled}
 use Rattle.method.proofs.Speed.{factor-plain, factor-high}
-
-tabled : weights 10_000_000 130 ≡ κPairs table
-unfolding weights
-tabled = take-all 130 (κPairs table) (rw κ-length (omega arith))
 
 pub at-ten-percent : (n : Numbers) → length (n .rates) ≡ 17 → factorOf n ≡ 10_000_000 → curveOf n ≡ tabledCurve n
 unfolding curveOf tabledCurve extended
@@ -33,7 +28,7 @@ at-ten-percent n seventeen ten =
     λ b d.
     let quoted = take smoothingYear (b .factors) in
     let twenty : length quoted ≡ 20 = simp (length-take, bootstrap-length (n .rates) seventeen d .0) in
-    rw (twenty, ten, tabled)
+    rw (twenty, ten, weights-tabled)
     (bind-assoc
     (extrapolate (ultimateForward (n .ultimate)) (llfr (n .volumes) (gapForwards b)) (κPairs table) 21 (lastYear quoted))
     (λ later. withinLimit (n .limit) (quoted ++ later))

@@ -1,17 +1,13 @@
--- Laws of the extrapolation: the cases of a year, the κ pairs of the table, and what keeps a low at most its high.
-use mathlib.Core.Path.{_≡_, refl, ap, _∙_}
-use mathlib.Core.Bool.{Bool, true, _&&_}
+-- Laws of the extrapolation: the cases of a year, and what keeps a low at most its high.
+use mathlib.Core.Path.{_≡_, refl}
 use mathlib.Core.List.{List, [], _∷_, _++_, append-assoc}
 use Prim.Native.Nat.{ℕ, zero, suc, _+_, _*_, _/_, _≤_, _<_, suc-le-suc}
 use native.Mathlib.Nat.{mul-le-mul, mul-le-mul-right, div-le-of-le-mul, le-div-iff-mul-le}
 use native.Mathlib.Omega.{arith}
 use borrow.Author.Tests.{le-leb, lt-leb}
-use lib.Dec.{T, ltb, leb→le}
+use lib.Dec.{leb→le}
 use lib.IntN.{ℤ, pos, negsuc}
-use lib.ListN.{length, getD, drop, length-map, drop-of-length-le, List·getD-map}
-use lib.Seq.{drop-cons}
 use lib.Signed.{_≤ℤ_}
-use mir.Facts.{ltb-yes, and-yes}
 use Rattle.fraction.specs.Fraction.{ℚ, natℚ, intℚ, _÷_}
 use Rattle.fraction.specs.Rounding.{U, ceilDiv, Encloses}
 use Rattle.fraction.proofs.Order.{≤ℚ-refl, ≈-sym, ≈-trans}
@@ -24,8 +20,7 @@ use Rattle.method.specs.Units.{Pair, pair, SignedPair}
 use Rattle.method.specs.Grounds.{highAboveLimit, Outcome, refused, done, _>>=_}
 use Rattle.method.specs.Quotes.{highestFactor}
 use Rattle.method.specs.Series.{growthSum, growth, growthLow, growthHigh}
-use Rattle.method.specs.Table.{table}
-use Rattle.method.specs.Extrapolation.{forward, stepLow, stepHigh, step, extrapolate, κPairs}
+use Rattle.method.specs.Extrapolation.{forward, stepLow, stepHigh, step, extrapolate}
 use Rattle.method.specs.True.{billion}
 use Rattle.method.proofs.Forward.{Weighs, forward-encloses}
 
@@ -61,38 +56,6 @@ module _ (l f : SignedPair) (κ : Pair) (κs : List Pair) (year : ℕ) (p : Pair
 pub no-year : (l f : SignedPair) (year : ℕ) (p : Pair) → extrapolate l f [] year p ≡ done []
 unfolding extrapolate
 no-year l f year p = refl
-
--- ---- the table's κ pairs
-
-pub table-length : length table ≡ 130
-unfolding table
-table-length = refl
-
-below : ℕ → List ℕ → Bool
-below b [] = true
-below b (k ∷ ks) = ltb k b && below b ks
-
-at-below : (b : ℕ) (ks : List ℕ) → 0 < b → T (below b ks) → (i : ℕ) → getD ks i 0 < b
-unfolding below
-at-below b [] h t i = h
-at-below b (k ∷ ks) h t zero = ltb-yes (and-yes (ltb k b) (below b ks) t .0)
-at-below b (k ∷ ks) h t (suc i) = at-below b ks h (and-yes (ltb k b) (below b ks) t .1) i
-
--- past the end stands 0
-pub table-below-U : (i : ℕ) → getD table i 0 < U
-unfolding table below
-table-below-U = at-below U table U-positive tt
-
--- the pair of an index, and those after it
-pub κPairs-next : (ks : List ℕ) (i : ℕ) → i < length ks → drop i (κPairs ks) ≡ pair (getD ks i 0) (getD ks i 0 + 1) ∷ drop (suc i) (κPairs ks)
-unfolding κPairs
-κPairs-next ks i h =
-    let pairs : ℕ → Pair = λ k. pair k (k + 1) in
-    drop-cons (κPairs ks) i (pair 0 1) (rw (length-map ks pairs) h) ∙ ap (λ (κ : Pair). κ ∷ drop (suc i) (κPairs ks)) (List·getD-map pairs ks i 0)
-
-pub κPairs-end : (ks : List ℕ) (i : ℕ) → length ks ≤ i → drop i (κPairs ks) ≡ []
-unfolding κPairs
-κPairs-end ks i h = drop-of-length-le (κPairs ks) {i = i} (rw (length-map ks (λ k. pair k (k + 1))) h)
 
 -- ---- what keeps the low at most the high
 

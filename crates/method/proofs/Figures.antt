@@ -1,6 +1,6 @@
 -- The figures of SPECIFICATION 12, by computation over the definitions.
 use mathlib.Core.Path.{refl}
-use Rattle.method.specs.Figures.{FiguresHold, marked, others, rateRecords, volumeRecords, factorsOf, yearsOf, answerOf}
+use Rattle.method.specs.Figures.{FiguresHold, marked, others, phaseInFigures, rateRecords, volumeRecords, factorsOf, yearsOf, answerOf}
 use Rattle.method.proofs.Computes.{computes}
 
 pub marked-figures : FiguresHold marked
@@ -10,3 +10,7 @@ marked-figures = refl
 pub other-figures : FiguresHold others
 unfolding computes rateRecords volumeRecords factorsOf yearsOf answerOf others
 other-figures = refl
+
+pub phase-in-figures : FiguresHold phaseInFigures
+unfolding computes rateRecords volumeRecords factorsOf yearsOf answerOf phaseInFigures
+phase-in-figures = refl

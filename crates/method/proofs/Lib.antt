@@ -31,6 +31,7 @@ pub mod HalvingLaws
 pub mod QuotesLaws
 pub mod QuotesBounds
 pub mod Zips
+pub mod Filling
 pub mod Enclosure
 pub mod Slots
 pub mod Reading

@@ -26,42 +26,48 @@ use Rattle.method.proofs.Weights.{hundredMillionths, same-ratio}
 
 -- ---- how far the cut rate is below 500
 
-below-500 : (m : ℕ) → m ≤ 500 → natAbs (pos 500 -ℤ pos m) ≡ 500 - m
+below-500 : (m : ℕ) → m ≤ 500 → pos 500 -ℤ pos m ≡ pos (500 - m)
 below-500 zero h = refl
 below-500 (suc m) h = rw (le-ltb 500 (suc m) h)
 
-pub way-up : (m : ℕ) → natAbs (pos 500 -ℤ cut (pos m)) ≡ 500 - m
+way-up : (m : ℕ) → pos 500 -ℤ cut (pos m) ≡ pos (500 - m)
 way-up m = go (decLe m 500)
   where
-    go : Dec (m ≤ 500) → natAbs (pos 500 -ℤ cut (pos m)) ≡ 500 - m
+    go : Dec (m ≤ 500) → pos 500 -ℤ cut (pos m) ≡ pos (500 - m)
     go (yes h) = rw (le-leb m 500 h) (below-500 m h)
-    go (no h) = rw (lt-leb m 500 (omega arith)) (omega arith)
+    go (no h) = rw (lt-leb m 500 (omega arith)) (ap pos (omega arith))
 
-pub way-down : (m : ℕ) → m ≤ 499 → natAbs (pos 500 -ℤ cut (negsuc m)) ≡ 501 + m
-way-down m h = rw (le-leb m 499 h) (omega arith)
+way-down : (m : ℕ) → m ≤ 499 → pos 500 -ℤ cut (negsuc m) ≡ pos (501 + m)
+way-down m h = ap (λ (above : Bool). pos 500 -ℤ cond above (negsuc m) (negsuc 499)) (le-leb m 499 h) ∙ ap pos (omega arith)
 
-pub way-down-cut : (m : ℕ) → 499 ≤ m → natAbs (pos 500 -ℤ cut (negsuc m)) ≡ 1_000
+way-down-cut : (m : ℕ) → 499 ≤ m → pos 500 -ℤ cut (negsuc m) ≡ pos 1_000
 way-down-cut m h = go (decLe m 499)
   where
-    go : Dec (m ≤ 499) → natAbs (pos 500 -ℤ cut (negsuc m)) ≡ 1_000
-    go (yes k) = rw (le-leb m 499 k) (omega arith)
+    go : Dec (m ≤ 499) → pos 500 -ℤ cut (negsuc m) ≡ pos 1_000
+    go (yes k) = rw (le-leb m 499 k) (ap pos (omega arith))
     go (no k) = rw (lt-leb m 499 (omega arith))
 
-way-most : (r : ℤ) → natAbs (pos 500 -ℤ cut r) ≤ 1_000
-way-most (pos m) = rw (way-up m) (omega arith)
-way-most (negsuc m) = go (decLe m 499)
+-- 0 to 1,000
+pub way : (r : ℤ) → (k : ℕ) × (pos 500 -ℤ cut r ≡ pos k) × (k ≤ 1_000)
+way (pos m) = (500 - m, way-up m, omega arith)
+way (negsuc m) = go (decLe m 499)
   where
-    go : Dec (m ≤ 499) → natAbs (pos 500 -ℤ cut (negsuc m)) ≤ 1_000
-    go (yes h) = rw (way-down m h) (omega arith)
-    go (no h) = rw (way-down-cut m (omega arith)) (omega arith)
+    go : Dec (m ≤ 499) → (k : ℕ) × (pos 500 -ℤ cut (negsuc m) ≡ pos k) × (k ≤ 1_000)
+    go (yes h) = (501 + m, way-down m h, omega arith)
+    go (no h) = (1_000, way-down-cut m (omega arith), omega arith)
+
+pub factor-by : (x : ℕ) (r : ℤ) → 10_000_000 + (x - 10_000) * way r .0 ≡ convergenceFactor x r
+unfolding convergenceFactor
+factor-by x r = ap (λ (z : ℤ). 10_000_000 + (x - 10_000) * natAbs z) (sym (way r .1))
 
 -- a sheet's factor is from 10% to 20%
 pub factor-range : (x : ℕ) (r : ℤ) → x ≤ 20_000 → (10_000_000 ≤ convergenceFactor x r) × (convergenceFactor x r ≤ 20_000_000)
 unfolding convergenceFactor
 factor-range x r h =
+    let (k, e, most) = way r in
     let above : x - 10_000 ≤ 10_000 = omega arith in
-    let more = mul-le-mul above (way-most r) in
-    (omega arith, omega arith)
+    let more = mul-le-mul above most in
+    rw e (omega arith, omega arith)
 
 -- 10,000 adds nothing
 pub factor-plain : (r : ℤ) → convergenceFactor 10_000 r ≡ 10_000_000

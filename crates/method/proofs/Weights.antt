@@ -4,13 +4,13 @@ use mathlib.Core.Path.{_≡_, refl, ap, _∙_}
 use mathlib.Core.Bool.{Bool, true, false, cond}
 use mathlib.Core.List.{List, [], _∷_}
 use Prim.Native.Nat.{ℕ, zero, suc, _+_, _*_, _-_, _/_, _≤_, _<_}
-use native.Mathlib.Nat.{zero-lt-suc, add-zero, le-of-suc-le-suc, not-suc-le-zero, mul-le-mul-left, le-refl}
+use native.Mathlib.Nat.{zero-lt-suc, add-zero, le-of-suc-le-suc, not-suc-le-zero, mul-le-mul-left, le-refl, lt-of-lt-of-le}
 use native.Mathlib.Omega.{arith}
-use borrow.Author.Tests.{eqb-true, leb-true}
+use borrow.Author.Tests.{eqb-true, ne-eqb, leb-true}
 use lib.Dec.{eqb, leb, lit<, lit≤}
 use lib.IntN.{pos}
 use lib.ListN.{length, getD, take, length-map, length-take}
-use lib.Seq.{length-take-le, getD-take}
+use lib.Seq.{length-take-le, getD-take, take-all}
 use Rattle.fraction.specs.Fraction.{ℚ, _≈_, _≤ℚ_, NonNegative, Positive, natℚ, _-ℚ_, _*ℚ_, _÷_, recip, powℚ}
 use Rattle.fraction.specs.Rounding.{U, ceilDiv, Encloses}
 use Rattle.fraction.proofs.Order.{≤ℚ-trans, ≤ℚ-≈-trans, ≤ℚ-antisym, ≈-refl, ≈-sym, ≈-trans, <ℚ→≤ℚ, positive→nonNegative}
@@ -87,9 +87,10 @@ module _ (n a : ℕ) (least : 10_000_000 ≤ a) (most : a ≤ 20_000_000) where
   decay-holds : Holds (decayPair a) q
   unfolding decayPair decay
   decay-holds =
-      let low = growthLow-≥ (10 * a) in
+      let low = lt-of-lt-of-le U-positive (growthLow-≥ (10 * a)) in
+      let high = lt-of-lt-of-le low (growthLow-≤-growthHigh (10 * a)) in
       encloses-≈ (ratio-is billion (expSum-positive n (positive→nonNegative α-positive)))
-      (encloses-ratio (omega arith) (omega (arith, growthLow-≤-growthHigh (10 * a))) (encloses-product (nat-exact U) (nat-exact U)) growth-holds)
+      (encloses-ratio low high (encloses-product (nat-exact U) (nat-exact U)) growth-holds)
 
   decay-ends : Ends U (decayPair a .low) (decayPair a .high) q
   unfolding decayPair
@@ -159,7 +160,7 @@ from-length q m p (suc count) = ap suc (from-length q m (scaled p q) count)
 
 -- ---- the table, at exactly 10%
 
-pub κ-length : length (κPairs table) ≡ 130
+κ-length : length (κPairs table) ≡ 130
 unfolding κPairs
 κ-length = length-map table (λ k. pair k (k + 1)) ∙ table-length
 
@@ -178,6 +179,18 @@ tabled-weighs n count h most l =
     (weighs-cong (convergence-cong n (÷-positive (natℚ-positive (lit< tt)) (natℚ-positive (lit< tt))) tenth-is (suc h))
     (κPairs-weigh (λ i. convergence n tenth (suc i)) table (table-weighs n) h (rw κ-length (omega arith))))
 
+abbrev weightsBy : Bool → ℕ → ℕ → List Pair
+weightsBy exact a count = cond exact (take count (κPairs table)) (weightsFrom (decayPair a) (scalePair a (decayPair a)) (pair U U) count)
+
+pub weights-tabled : weights 10_000_000 130 ≡ κPairs table
+unfolding weights
+weights-tabled = take-all 130 (κPairs table) (rw κ-length (omega arith))
+
+pub weights-worked : (a count : ℕ) → (a ≡ 10_000_000 → ⊥) →
+    weights a count ≡ weightsFrom (decayPair a) (scalePair a (decayPair a)) (pair U U) count
+unfolding weights
+weights-worked a count n = ap (λ (exact : Bool). weightsBy exact a count) (ne-eqb a 10_000_000 n)
+
 -- ---- every order, every factor, every year
 
 pub weights-weigh : (n a count : ℕ) → 10_000_000 ≤ a → a ≤ 20_000_000 → count ≤ 130 → (h : ℕ) → h < count →
@@ -187,9 +200,6 @@ weights-weigh n a count least most years h l =
     split (eqb a 10_000_000)
     (λ e. let exact : a ≡ 10_000_000 = eqb-true a 10_000_000 e in rw (e, exact) (tabled-weighs n count h years l))
     (λ e. rw e (worked-weighs n a least most count h l))
-
-abbrev weightsBy : Bool → ℕ → ℕ → List Pair
-weightsBy exact a count = cond exact (take count (κPairs table)) (weightsFrom (decayPair a) (scalePair a (decayPair a)) (pair U U) count)
 
 pub weights-length : (a count : ℕ) → count ≤ 130 → length (weights a count) ≡ count
 unfolding weights

@@ -1,9 +1,9 @@
--- SPECIFICATION 12: the figures marked * and those marked +, each as one list.
+-- SPECIFICATION 12: the figures marked *, those marked +, and those of the phase-in, each as one list.
 use mathlib.Core.Path.{_≡_}
 use mathlib.Core.List.{List, [], _∷_, _++_, map}
 use Prim.Native.Nat.{ℕ, zero, suc, _+_, _-_}
 use lib.IntN.{ℤ, pos, negsuc}
-use lib.ListN.{replicate, getD}
+use lib.ListN.{replicate, getD, take, drop}
 use Rattle.fraction.specs.Rounding.{U}
 use Rattle.method.specs.Bytes.{bytes2, bytes4}
 use Rattle.method.specs.Units.{Pair, pair, SignedPair}
@@ -11,6 +11,7 @@ use Rattle.method.specs.Grounds.{numberOf, placeOf, Outcome, refused, do
 use Rattle.method.specs.Sheet.{maturities, volumeMaturities}
 use Rattle.method.specs.Quotes.{Bootstrap, bootstrap, quotesOf}
 use Rattle.method.specs.Series.{G, growthLow, growthHigh}
+use Rattle.method.specs.Extrapolation.{convergenceFactor, weights}
 use Rattle.method.specs.Curve.{Curve, answer}
 
 -- ---- sheets, byte by byte
@@ -20,18 +21,23 @@ rateRecords [] rs = []
 rateRecords (m ∷ ms) [] = []
 rateRecords (m ∷ ms) (r ∷ rs) = 0x02 ∷ m ∷ bytes2 r ++ rateRecords ms rs
 
-unfoldable pub volumeRecords : List ℕ → List ℕ
-volumeRecords [] = []
-volumeRecords (m ∷ ms) = 0x03 ∷ m ∷ bytes4 1 ++ volumeRecords ms
+unfoldable pub volumeRecords : List ℕ → List ℕ → List ℕ
+volumeRecords [] vs = []
+volumeRecords (m ∷ ms) [] = []
+volumeRecords (m ∷ ms) (v ∷ vs) = 0x03 ∷ m ∷ bytes4 v ++ volumeRecords ms vs
 
--- the zero sheet with other rates (16-bit numbers) and limit
-abbrev pub sheetWith : List ℕ → ℕ → List ℕ
-sheetWith rates limit =
-    0x01 ∷ bytes2 0
+-- of any month, rates (16-bit numbers), volumes, ultimate rate and limit
+abbrev pub sheetOf : ℕ → List ℕ → List ℕ → ℕ → ℕ → List ℕ
+sheetOf month rates volumes ufr limit =
+    0x01 ∷ bytes2 month
     ++ rateRecords maturities rates
-    ++ volumeRecords volumeMaturities
-    ++ 0x04 ∷ bytes2 0
+    ++ volumeRecords volumeMaturities volumes
+    ++ 0x04 ∷ bytes2 ufr
     ++ 0x05 ∷ bytes4 limit
+
+-- the zero sheet with other rates and limit
+abbrev pub sheetWith : List ℕ → ℕ → List ℕ
+sheetWith rates limit = sheetOf 0 rates (replicate 5 1) 0 limit
 
 -- month, rates and UFR 0, volumes 1
 abbrev pub zeroSheet : ℕ → List ℕ
@@ -40,6 +46,23 @@ zeroSheet limit = sheetWith (replicate 17 0) limit
 -- -2,000 in 16 bits
 abbrev pub minus2000 : ℕ
 minus2000 = 0xF830
+
+-- n below 0 in 16 bits
+abbrev pub minus : ℕ → ℕ
+minus n = 0x10000 - n
+
+-- November 2020, as source 003 has it: the 20-year rate is 0.014%
+abbrev pub novemberRates : List ℕ
+novemberRates =
+    minus 52 ∷ minus 53 ∷ minus 51 ∷ minus 48 ∷ minus 44 ∷ minus 39 ∷ minus 33 ∷ minus 27 ∷ minus 21 ∷ minus 15 ∷ minus 4 ∷ 5 ∷ 14 ∷ 12 ∷ 8 ∷ minus 2
+    ∷ minus 9 ∷ []
+
+abbrev pub november : List ℕ
+november = sheetOf 0 novemberRates (14 ∷ 5 ∷ 40 ∷ 6 ∷ 8 ∷ []) 360 100_000
+
+-- with a 26th record
+abbrev pub phased : List ℕ → ℕ → List ℕ
+phased s x = s ++ 0x06 ∷ bytes2 x
 
 -- ---- what is read off an answer, as numbers
 
@@ -107,4 +130,32 @@ others =
     ∷ (answerOf (answer (sheetWith (replicate 17 minus2000) 100_000)) is (8 ∷ 35 ∷ []))
     ∷ (answerOf (answer (sheetWith (replicate 9 minus2000 ++ 12_000 ∷ replicate 7 0) 100_000)) is (7 ∷ 10 ∷ []))
     ∷ (answerOf (answer (sheetWith (replicate 10 3_000 ++ 12_000 ∷ replicate 6 3_000) 100_000)) is (9 ∷ 12 ∷ []))
+    ∷ []
+
+-- the phase-in's
+unfoldable pub phaseInFigures : List Figure
+phaseInFigures =
+    -- source 003's own factors, at X 20,000 and 20-year rates of 0.014%, -0.086%, -0.186%, 0.114%, 0.214%
+    (map (λ r. pos (convergenceFactor 20_000 r)) (pos 14 ∷ negsuc 85 ∷ negsuc 185 ∷ pos 114 ∷ pos 214 ∷ [])
+    is (14_860_000 ∷ 15_860_000 ∷ 16_860_000 ∷ 13_860_000 ∷ 12_860_000 ∷ []))
+    -- the rate is cut; 10,000 adds nothing
+    ∷ (map (λ r. pos (convergenceFactor 20_000 r)) (negsuc 1_999 ∷ negsuc 499 ∷ pos 500 ∷ pos 12_000 ∷ [])
+    is (20_000_000 ∷ 20_000_000 ∷ 10_000_000 ∷ 10_000_000 ∷ []))
+    ∷ (pos (convergenceFactor 10_000 (negsuc 499)) ∷ [] is (10_000_000 ∷ []))
+    -- at 14.86%: E at ten times the factor; κ of h = 1, 2 and 130
+    ∷ (ends (pair (growthLow 148_600_000) (growthHigh 148_600_000) ∷ []) is (1_160_208_810 ∷ 1_160_208_816 ∷ []))
+    ∷ (ends (take 2 (weights 14_860_000 130)) is (929_247_550 ∷ 929_247_585 ∷ 800_931_295 ∷ 800_931_331 ∷ []))
+    ∷ (ends (drop 129 (weights 14_860_000 130)) is (0 ∷ 8 ∷ []))
+    -- November with X 20,000: years 21, 60, 150; and year 150 without the record
+    ∷ (ends (yearsOf 21 1 (answer (phased november 20_000))) is (996_928_761 ∷ 996_928_786 ∷ []))
+    ∷ (ends (yearsOf 60 1 (answer (phased november 20_000))) is (884_663_358 ∷ 884_664_093 ∷ []))
+    ∷ (ends (yearsOf 150 1 (answer (phased november 20_000))) is (640_244_924 ∷ 640_246_623 ∷ []))
+    ∷ (ends (yearsOf 150 1 (answer november)) is (647_775_926 ∷ 647_777_646 ∷ []))
+    -- 110, 111 and 113 bytes; another kind; X beyond its range
+    ∷ (answerOf (answer (november ++ 0x06 ∷ [])) is (1 ∷ 0 ∷ []))
+    ∷ (answerOf (answer (november ++ 0x06 ∷ 78 ∷ [])) is (1 ∷ 0 ∷ []))
+    ∷ (answerOf (answer (phased november 20_000 ++ 0 ∷ [])) is (1 ∷ 0 ∷ []))
+    ∷ (answerOf (answer (november ++ 0x07 ∷ bytes2 20_000)) is (2 ∷ 26 ∷ []))
+    ∷ (answerOf (answer (phased november 9_999)) is (3 ∷ 26 ∷ []))
+    ∷ (answerOf (answer (phased november 20_001)) is (3 ∷ 26 ∷ []))
     ∷ []

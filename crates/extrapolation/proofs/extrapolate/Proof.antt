@@ -1,84 +1,98 @@
 -- Invariant: what is left, put after the years that are written, is the whole extrapolation.
-use mathlib.Core.Path.{_≡_, sym}
-use Prim.Native.Nat.{_-_}
+use mathlib.Core.Path.{_≡_, refl, sym}
+use Prim.Native.Nat.{_-_, _≤_, _<_}
 use native.Mathlib.Nat.{le-trans}
-use lib.ListN.{getD}
+use native.Mathlib.Omega.{arith}
+use lib.ListN.{length}
+use denote.Ref.{now}
 use Rattle.rounding.specs.Pairs.{asPair, asSignedPair}
-use Rattle.extrapolation.specs.Extrapolated.{Weight}
 use Rattle.extrapolation.proofs.LaterYears.{kept-refused, kept-worked, Reached, at-start, next, at-refusal, at-end, after-year}
 use borrow.Author.Needs.{needs}
 use Rattle.extrapolation.proofs.extrapolate.Statement.{statement}
 use Rattle.extrapolation.proofs.extrapolate.Tie as tie
 
 abbrev Inv-loop : tie.InvT-loop
-Inv-loop l f years k lows₀ highs₀ p₀ i₀ lows highs p i = Reached (asSignedPair l) (asSignedPair f) years (record { lows = lows; highs = highs }) (asPair p) i
+Inv-loop l f klows khighs start years lows₀ highs₀ p₀ i₀ i-end lows highs p i =
+    Reached (asSignedPair l) (asSignedPair f) klows khighs start years (record { lows = lows; highs = highs }) (asPair p) i × (i-end ≡ length klows)
 
 abbrev μ-loop : tie.MeasureT-loop
-μ-loop l f years k lows₀ highs₀ p₀ i₀ lows highs p i = 130 - i
+μ-loop l f klows khighs start years lows₀ highs₀ p₀ i₀ i-end lows highs p i = i-end - i
 
-weights-requires : tie.Need-weights-requires Inv-loop μ-loop
-weights-requires c κs = search needs
+-- where a pass begins
+abbrev start : (at : tie.At-loop Inv-loop μ-loop) → tie.Start Inv-loop μ-loop
+start at = at .before .before .before .before .before
 
-array-read-t12 : tie.Need-array-read-t12 Inv-loop μ-loop
-array-read-t12 c = search needs
+sub-t13 : tie.Need-sub-t13 Inv-loop μ-loop
+sub-t13 c = search needs
 
-array-read-t15 : tie.Need-array-read-t15 Inv-loop μ-loop
-array-read-t15 c = search needs
+mul-t14 : tie.Need-mul-t14 Inv-loop μ-loop
+mul-t14 c = search needs
+
+array-read-t17 : tie.Need-array-read-t17 Inv-loop μ-loop
+array-read-t17 c = search needs
+
+sub-t18 : tie.Need-sub-t18 Inv-loop μ-loop
+sub-t18 c = search needs
+
+mul-t19 : tie.Need-mul-t19 Inv-loop μ-loop
+mul-t19 c = search needs
+
+array-read-t22 : tie.Need-array-read-t22 Inv-loop μ-loop
+array-read-t22 c = search needs
 
 loop-holds : tie.Need-loop-holds Inv-loop μ-loop
 loop-holds c =
-    let s = c .before .before .before in
-    at-start (asSignedPair (s .args .l)) (asSignedPair (s .args .f)) (s .args .years) (search needs) (search needs) (s .pre .2)
+    let s = c .before .before .before .before in
+    let a = s .args in
+    (at-start (asSignedPair (a .l)) (asSignedPair (a .f)) (now (a .klows)) (now (a .khighs)) (a .start) (a .years) (search needs) (search needs) (s .pre .3), refl)
 
-mul-next-year : tie.Need-mul-next-year Inv-loop μ-loop
-mul-next-year c = search needs
+mul-t25 : tie.Need-mul-t25 Inv-loop μ-loop
+mul-t25 c = search needs
 
-array-read-next-year : tie.Need-array-read-next-year Inv-loop μ-loop
-array-read-next-year c = search needs
+shared-slice-read-t27 : tie.Need-shared-slice-read-t27 Inv-loop μ-loop
+shared-slice-read-t27 c = search needs
 
--- where a pass begins, and the weight of its year
-module _ (at : tie.At-loop Inv-loop μ-loop) where
-  abbrev worked : tie.After-weights Inv-loop μ-loop
-  worked = at .before .before .before
+mul-t28 : tie.Need-mul-t28 Inv-loop μ-loop
+mul-t28 c = search needs
 
-  abbrev start : tie.Start Inv-loop μ-loop
-  start = worked .before
-
-weight : (c : tie.In-loop Inv-loop μ-loop) → Weight (c .before .loop .i) (getD (worked (c .before) .weights .result) (c .before .loop .i) 0)
-weight c = worked (c .before) .weights .ensures (c .before .loop .i) (search needs)
+shared-slice-read-t30 : tie.Need-shared-slice-read-t30 Inv-loop μ-loop
+shared-slice-read-t30 c = search needs
 
 next-year-requires : tie.Need-next-year-requires Inv-loop μ-loop
 next-year-requires c κs =
-    let s = start (c .before) in
-    let p = c .before .loop .inv .current in
-    (s .pre .0 .size, s .pre .1 .size, weight c .below-U, record { low = le-trans (p .ordered) (p .at-most); high = p .at-most })
+    let at = c .before .before .before in
+    let s = start at in
+    let p = at .loop .inv .0 .current in
+    let inside : at .loop .i < length (now (s .args .klows)) = search needs in
+    (s .pre .0 .size, s .pre .1 .size, s .pre .2 .ranges (at .loop .i) inside, record { low = le-trans (p .ordered) (p .at-most); high = p .at-most })
 
 -- the year of a pass is the definition's
 year-is : (c : tie.After-next-year Inv-loop μ-loop) →
-    let at = c .before .before in
+    let at = c .before .before .before .before in
     let a = start at .args in
-    asPair (c .next-year .result) ≡ next (asSignedPair (a .l)) (asSignedPair (a .f)) (at .loop .i) (asPair (at .loop .p))
-year-is c = rw (← weight (c .before) .tabled) (c .next-year .ensures)
+    asPair (c .next-year .result)
+    ≡ next (asSignedPair (a .l)) (asSignedPair (a .f)) (now (a .klows)) (now (a .khighs)) (a .start) (at .loop .i) (asPair (at .loop .p))
+year-is c = c .next-year .ensures
 
-add-t22 : tie.Need-add-t22 Inv-loop μ-loop
-add-t22 c = search needs
+add-at : tie.Need-add-at Inv-loop μ-loop
+add-at c = search needs
+
+add-t32 : tie.Need-add-t32 Inv-loop μ-loop
+add-t32 c = search needs
 
 returns : tie.Need-returns Inv-loop μ-loop
 returns c =
     let y = c .before .before in
-    (sym (at-refusal (y .before .before .loop .inv) (search needs) (year-is y) (c .if1 .taken)), kept-refused _ _)
-
-add-lows : tie.Need-add-lows Inv-loop μ-loop
-add-lows c = search needs
+    let at = y .before .before .before .before in
+    let s = start at in
+    let inside : at .loop .i < length (now (s .args .klows)) = search needs in
+    (sym (at-refusal (s .pre .2) (at .loop .inv .0) inside (year-is y) (c .if1 .taken)), kept-refused (s .args .start) (s .args .years) _)
 
 mul-lows : tie.Need-mul-lows Inv-loop μ-loop
 mul-lows c = search needs
 
 array-write-lows : tie.Need-array-write-lows Inv-loop μ-loop
 array-write-lows c = search needs
-
-add-highs : tie.Need-add-highs Inv-loop μ-loop
-add-highs c = search needs
 
 mul-highs : tie.Need-mul-highs Inv-loop μ-loop
 mul-highs c = search needs
@@ -95,14 +109,18 @@ loop-less c = search needs
 loop-again : tie.Need-loop-again Inv-loop μ-loop
 loop-again c =
     let y = c .before .before in
-    let at = y .before .before in
+    let at = y .before .before .before .before in
     let s = start at in
-    after-year (at .loop .inv) (search needs) (year-is y) (c .if1 .left) (s .pre .0 .ordered) (s .pre .1 .ordered)
+    let inside : at .loop .i < length (now (s .args .klows)) = search needs in
+    (after-year (s .pre .2) (at .loop .inv .0) inside (year-is y) (c .if1 .left) (s .pre .0 .ordered) (s .pre .1 .ordered), at .loop .inv .1)
 
 returns-2 : tie.Need-returns-2 Inv-loop μ-loop
 returns-2 c =
-    let d = c .before .loop .inv in
-    (sym (at-end d (search needs)), kept-worked d (search needs))
+    let at = c .before in
+    let s = start at in
+    let d = at .loop .inv .0 in
+    let all : length (now (s .args .klows)) ≤ at .loop .i = search needs in
+    (sym (at-end (s .pre .2) d all), kept-worked (s .pre .2) d all)
 
 pub extrapolate-spec : {M : Type 1} → statement M
 extrapolate-spec =
@@ -110,19 +128,23 @@ extrapolate-spec =
     (tie.spec
     Inv-loop
     μ-loop
-    weights-requires
-    array-read-t12
-    array-read-t15
+    sub-t13
+    mul-t14
+    array-read-t17
+    sub-t18
+    mul-t19
+    array-read-t22
     loop-holds
-    mul-next-year
-    array-read-next-year
+    mul-t25
+    shared-slice-read-t27
+    mul-t28
+    shared-slice-read-t30
     next-year-requires
-    add-t22
+    add-at
+    add-t32
     returns
-    add-lows
     mul-lows
     array-write-lows
-    add-highs
     mul-highs
     array-write-highs
     add-i

@@ -1,6 +1,6 @@
 -- Both results are read back from their bits, and the test finds the outer one.
 use mathlib.Core.Path.{_≡_}
-use Prim.Native.Nat.{ℕ, _+_, _^_, _<_}
+use Prim.Native.Nat.{ℕ, _^_, _<_}
 use lib.IntN.{ℤ}
 use lib.Signed.{mag}
 use Rattle.fraction.specs.Rounding.{U, roundℤ}
@@ -13,9 +13,6 @@ use Rattle.extrapolation.proofs.forward_end.Tie as tie
 
 blended-requires : tie.Need-blended-requires
 blended-requires c κs = search needs
-
-add-blended : tie.Need-add-blended
-add-blended c = search needs
 
 blended-requires-2 : tie.Need-blended-requires-2
 blended-requires-2 c κs = search needs
@@ -30,17 +27,17 @@ module _ (c : tie.After-blended2) where
   result-is : (κ : ℕ) {r : ℤ} → r ≡ roundℤ (s .args .up) (blend (stored (s .args .l)) (stored (s .args .f)) κ) U → mag r < 2 ^ 63 → stored r ≡ at κ
   result-is κ = ends-read (λ l f. roundℤ (s .args .up) (blend l f κ) U) (s .args .l) (s .args .f) (s .pre .0) (s .pre .1)
 
-  at-K : stored (c .before .blended .result) ≡ at (s .args .k)
-  at-K = result-is (s .args .k) (c .before .blended .ensures) (c .before .blended .ok)
+  at-low : stored (c .before .blended .result) ≡ at (s .args .k .low)
+  at-low = result-is (s .args .k .low) (c .before .blended .ensures) (c .before .blended .ok)
 
-  at-K+1 : stored (c .blended2 .result) ≡ at (s .args .k + 1)
-  at-K+1 = result-is (s .args .k + 1) (c .blended2 .ensures) (c .blended2 .ok)
+  at-high : stored (c .blended2 .result) ≡ at (s .args .k .high)
+  at-high = result-is (s .args .k .high) (c .blended2 .ensures) (c .blended2 .ok)
 
 returns : tie.Need-returns
-returns c = outer-second (s (c .before) .args .up) (at-K (c .before)) (at-K+1 (c .before)) (c .if1 .taken)
+returns c = outer-second (s (c .before) .args .up) (at-low (c .before)) (at-high (c .before)) (c .if1 .taken)
 
 returns-2 : tie.Need-returns-2
-returns-2 c = outer-first (s (c .before) .args .up) (at-K (c .before)) (at-K+1 (c .before)) (c .if1 .left)
+returns-2 c = outer-first (s (c .before) .args .up) (at-low (c .before)) (at-high (c .before)) (c .if1 .left)
 
 pub forward-end-spec : {M : Type 1} → statement M
-forward-end-spec = tie.close (tie.spec blended-requires add-blended blended-requires-2 returns returns-2)
+forward-end-spec = tie.close (tie.spec blended-requires blended-requires-2 returns returns-2)

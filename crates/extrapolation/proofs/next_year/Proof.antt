@@ -1,10 +1,8 @@
 -- The forward's ends are read back from their bits: they are the definition's forward, whose size is the method's bound.
 use mathlib.Core.Path.{_≡_}
-use Prim.Native.Nat.{_+_}
-use Rattle.method.specs.Units.{pair}
 use Rattle.method.specs.Ranges.{forwardBound}
 use Rattle.method.specs.Extrapolation.{forward, step}
-use Rattle.rounding.specs.Pairs.{asSignedPair, SizeAtMost}
+use Rattle.rounding.specs.Pairs.{asPair, asSignedPair, SizeAtMost}
 use Rattle.rounding.specs.declared.SignedPair.{SignedPair}
 use Rattle.extrapolation.proofs.Forwarding.{built, forward-is}
 use borrow.Author.Needs.{needs}
@@ -21,12 +19,11 @@ module _ (c : tie.After-forward-end2) where
   abbrev between : SignedPair
   between = built (lower .forward-end .result) (c .forward-end2 .result)
 
-  between-is : let k = s .args .k in
-      (asSignedPair between ≡ forward (asSignedPair (s .args .l)) (asSignedPair (s .args .f)) (pair k (k + 1))) × SizeAtMost forwardBound between
+  between-is : (asSignedPair between ≡ forward (asSignedPair (s .args .l)) (asSignedPair (s .args .f)) (asPair (s .args .k))) × SizeAtMost forwardBound between
   between-is =
       let low = lower .forward-end in
       let high = c .forward-end2 in
-      forward-is (s .args .l) (s .args .f) (s .args .k) (s .pre .0) (s .pre .1) (s .pre .2) (low .ensures) (low .ok) (high .ensures) (high .ok)
+      forward-is (s .args .l) (s .args .f) (asPair (s .args .k)) (s .pre .0) (s .pre .1) (s .pre .2) (low .ensures) (low .ok) (high .ensures) (high .ok)
 
 forward-end-requires : tie.Need-forward-end-requires
 forward-end-requires c κs = search needs
