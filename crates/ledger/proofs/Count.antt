@@ -8,7 +8,7 @@ use borrow.Author.Tests.{leb-true}
 use lib.Dec.{T, leb}
 use lib.ListN.{length}
 use Rattle.method.specs.Grounds.{afterToldMonth, beforeStandingCurve, Outcome, refused, done, _>>=_, demand}
-use Rattle.method.specs.Sheet.{Numbers, readSheet}
+use Rattle.method.specs.Sheet.{Numbers, layoutOf, sizeOf, readSheet}
 use Rattle.method.specs.Curve.{Curve, curveOf, answer}
 use Rattle.method.proofs.Enclosure.{enclosure}
 use Rattle.method.proofs.Reading.{read-passes}
@@ -97,8 +97,8 @@ works-done s e = go (answer s) refl e
     go (refused g) h t = absurd (subst T (sym t) tt)
     go (done c) h t = (c, h)
 
--- a sheet that works is 109 bytes long, and its curve has the month of its bytes
-pub answer-length : (s : List ℕ) {c : Curve} → answer s ≡ done c → length s ≡ 109
+-- a sheet that works has its records' length, and its curve has the month of its bytes
+pub answer-length : (s : List ℕ) {c : Curve} → answer s ≡ done c → length s ≡ sizeOf (layoutOf s)
 unfolding answer
 answer-length s e = let read = bind-done (readSheet s) curveOf e in read-passes s (read .0) (read .1) .long
 

@@ -9,10 +9,11 @@ use lib.Dec.{leb, ltb, eqb, eqb·suc-zero}
 use lib.ListN.{length, drop}
 use Rattle.method.specs.Grounds.{Ground, afterToldMonth, beforeStandingCurve, monthAboveLast, monthBeforeTold, yearOutside, noCurve, bufferTooShort}
 use Rattle.method.specs.Grounds.{Outcome, refused, done, _>>=_, demand}
-use Rattle.method.specs.Sheet.{Numbers, readSheet, sheetNumbers, slots, firstFailure, rightRecord, inRange, total}
+use Rattle.method.specs.Sheet.{Numbers, readSheet, sheetNumbers, layoutOf, sizeOf, slotsOf, firstFailure, rightRecord, inRange, total}
 use Rattle.method.specs.Curve.{Curve, curveOf}
 use Rattle.method.specs.Enclosure.{lowOf, highOf}
 use Rattle.method.proofs.Outcome.{split}
+use Rattle.method.proofs.Layouts.{either-length}
 use Rattle.ledger.specs.Answers.{finding}
 use Rattle.ledger.specs.Page.{pageBytes}
 use Rattle.ledger.specs.Book.{Standing, none, some, Book, Booked, booked, notBefore, postOutcome, withCurve, post, turnOutcome, withTold, turn}
@@ -61,9 +62,11 @@ outcome-first b s =
     let standing = when (not (notBefore (b .standing) (n .month))) beforeStandingCurve in
     let told = when (not (leb (n .month) (b .told))) afterToldMonth in
     let o = curveOf n in
-    rw (none-traded (total (n .volumes)), not-at-most (b .told) (n .month), before-standing (b .standing) (n .month))
+    let wrong = firstFailure (rightRecord s) 1 (slotsOf (layoutOf s)) in
+    let outside = firstFailure (inRange s) 1 (slotsOf (layoutOf s)) in
+    rw (← either-length s, none-traded (total (n .volumes)), not-at-most (b .told) (n .month), before-standing (b .standing) (n .month))
     (read-first _ n
-    (eqb (length s) 109) (eqb (firstFailure (rightRecord s) 1 slots) 0) (eqb (firstFailure (inRange s) 1 slots) 0) (ltb 0 (total (n .volumes)))
+    (eqb (length s) (sizeOf (layoutOf s))) (eqb wrong 0) (eqb outside 0) (ltb 0 (total (n .volumes)))
     _ _ _ _ (told ∷ standing ∷ []) o
     (demand-first (leb (n .month) (b .told)) afterToldMonth _ (standing ∷ []) o
     (demand-first (notBefore (b .standing) (n .month)) beforeStandingCurve o [] o refl)))

@@ -1,7 +1,8 @@
--- A sheet of 109 bytes read by the offsets of its bytes has the numbers of its records.
+-- A sheet of 109 or 112 bytes read by the offsets of its bytes has the numbers of its records.
 use mathlib.Core.Path.{_≡_, refl, ap, sym}
-use mathlib.Core.Bool.{cond}
+use mathlib.Core.Bool.{true, false, cond}
 use mathlib.Core.List.{List, [], _∷_, _++_, map, append-assoc}
+use mathlib.Core.Logic.{_⊎_, inl, inr}
 use Prim.Native.Nat.{ℕ, suc, _+_, _*_, _≤_, _<_}
 use native.Mathlib.Numerals.{add-one}
 use native.Mathlib.Omega.{arith}
@@ -11,9 +12,10 @@ use lib.IntN.{ℤ, pos, _-ℤ_, +ℤ-idr}
 use lib.ListN.{length, take, drop}
 use lib.Seq.{drop-cons}
 use Rattle.method.specs.Bytes.{bigEndian}
-use Rattle.method.specs.Sheet.{Kind, rate, volume, ultimate, limit, bodyLength, maturities, volumeMaturities, Entry, entry, entries}
-use Rattle.method.specs.Sheet.{slot, slotsFrom, slots, twosComplement16, numberOfRecord, allNumbers, sheetNumbers}
+use Rattle.method.specs.Sheet.{Kind, rate, volume, ultimate, limit, phaseIn, bodyLength, maturities, volumeMaturities, Entry, entry, firstEntries}
+use Rattle.method.specs.Sheet.{Layout, layoutOf, entriesOf, sizeOf, slot, slotsFrom, slotsOf, twosComplement16, numberOfRecord, numbersOf, sheetNumbers}
 use Rattle.method.proofs.Outcome.{split}
+use Rattle.method.proofs.Layouts.{two-lengths}
 use Rattle.ledger.specs.Count.{byte2, byte4, monthOf, limitOf, rateAt, offsets, typed}
 
 -- from 32,768 on, 65,536 less
@@ -80,17 +82,28 @@ module _ (s : List ℕ) where
 
   -- ---- the sheet
 
-  module _ (long : length s ≡ 109) where
-    all-numbers : allNumbers s ≡
-        pos (monthOf s) ∷ (map (rateAt s) (offsets 5 4 17) ++ (map (λ i. pos (byte4 s i)) (offsets 73 6 5) ++ (pos (byte2 s 102) ∷ pos (limitOf s) ∷ [])))
-    unfolding slots entries slotsFrom
-    all-numbers =
-        let tail = entry ultimate 0 ∷ entry limit 0 ∷ [] in
-        let rates = records-of rate (rateAt s) rate-number maturities (map (entry volume) volumeMaturities ++ tail) 3 (rw rate-count (omega arith)) in
-        let volumes = records-of volume (λ i. pos (byte4 s i)) volume-number volumeMaturities tail 71 (rw volume-count (omega arith)) in
-        let apart = append-assoc (map (entry rate) maturities) (map (entry volume) volumeMaturities) tail in
-        rw (two-at 1 (omega arith), apart, rates, rate-count, volumes, volume-count, two-at 102 (omega arith), four-at 105 (omega arith))
+  -- the record after the first 25, where it stands
+  abbrev last : Layout → List Entry
+  last l = cond (l .phased) (entry phaseIn 0 ∷ []) []
 
-    pub typed-is : sheetNumbers s ≡ typed s
-    unfolding typed offsets
-    typed-is = rw all-numbers
+  all-numbers : (l : Layout) → 109 ≤ length s →
+      map (numberOfRecord s) (slotsOf l) ≡
+      pos (monthOf s)
+      ∷ (map (rateAt s) (offsets 5 4 17)
+      ++ (map (λ i. pos (byte4 s i)) (offsets 73 6 5) ++ (pos (byte2 s 102) ∷ pos (limitOf s) ∷ map (numberOfRecord s) (slotsFrom 109 (last l)))))
+  unfolding slotsOf entriesOf firstEntries slotsFrom
+  all-numbers l long =
+      let tail = entry ultimate 0 ∷ entry limit 0 ∷ last l in
+      let rates = records-of rate (rateAt s) rate-number maturities (map (entry volume) volumeMaturities ++ tail) 3 (rw rate-count (omega arith)) in
+      let volumes = records-of volume (λ i. pos (byte4 s i)) volume-number volumeMaturities tail 71 (rw volume-count (omega arith)) in
+      let behind = append-assoc (map (entry rate) maturities ++ map (entry volume) volumeMaturities) (entry ultimate 0 ∷ entry limit 0 ∷ []) (last l) in
+      let apart = append-assoc (map (entry rate) maturities) (map (entry volume) volumeMaturities) tail in
+      rw (two-at 1 (omega arith), behind, apart, rates, rate-count, volumes, volume-count, two-at 102 (omega arith), four-at 105 (omega arith))
+
+  pub typed-is : length s ≡ sizeOf (layoutOf s) → sheetNumbers s ≡ typed s
+  unfolding typed offsets slotsFrom
+  typed-is long = go (two-lengths s long)
+    where
+      go : ((length s ≡ 109) × (layoutOf s .phased ≡ false)) ⊎ ((length s ≡ 112) × (layoutOf s .phased ≡ true)) → sheetNumbers s ≡ typed s
+      go (inl (e, plain)) = rw (all-numbers (layoutOf s) (omega arith), plain, e)
+      go (inr (e, phased)) = rw (all-numbers (layoutOf s) (omega arith), phased, two-at 110 (omega arith), e)

@@ -2,9 +2,9 @@
 use mathlib.Core.Bool.{Bool, true, false, cond, _&&_}
 use mathlib.Core.List.{List, [], _∷_, map}
 use Prim.Native.Nat.{ℕ, zero, suc, _+_, _*_}
-use lib.Dec.{leb}
+use lib.Dec.{leb, eqb}
 use lib.IntN.{ℤ, pos, _-ℤ_}
-use lib.ListN.{getD}
+use lib.ListN.{length, getD}
 use Rattle.method.specs.Grounds.{Outcome, refused, done}
 use Rattle.method.specs.Sheet.{Numbers}
 use Rattle.method.specs.Curve.{answer}
@@ -33,6 +33,10 @@ unfoldable pub offsets : ℕ → ℕ → ℕ → List ℕ
 offsets i d zero = []
 offsets i d (suc n) = i ∷ offsets (i + d) d n
 
+-- X of a sheet of 112 bytes, at byte 110; any other counts as 10,000
+abbrev pub phaseInOf : List ℕ → ℕ
+phaseInOf s = cond (eqb (length s) 112) (byte2 s 110) 10_000
+
 -- the month at byte 1; seventeen rates, four bytes apart from 5; five volumes, six apart from 73; the ultimate rate at 102
 unfoldable pub typed : List ℕ → Numbers
 typed s =
@@ -42,6 +46,7 @@ typed s =
       volumes = map (byte4 s) (offsets 73 6 5);
       ultimate = byte2 s 102;
       limit = limitOf s;
+      phaseIn = phaseInOf s;
     }
 
 -- ---- a told month, at first 0, and the last accepted sheet, at first none

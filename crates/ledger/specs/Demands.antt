@@ -1,6 +1,6 @@
 -- SPECIFICATION 8: the three demands, as statements over the definitions.
 use mathlib.Core.Path.{_≡_}
-use mathlib.Core.Bool.{Bool, true, false, not}
+use mathlib.Core.Bool.{Bool, true, false, not, _||_}
 use mathlib.Core.List.{List, [], _∷_}
 use Prim.Native.Nat.{ℕ, _-_, _≤_, _<_}
 use lib.Dec.{ltb, eqb}
@@ -8,7 +8,7 @@ use lib.ListN.{length, getD}
 use Rattle.method.specs.Units.{pair}
 use Rattle.method.specs.Grounds.{Ground, wrongLength, wrongRecord, outOfRange, noVolume, afterToldMonth, beforeStandingCurve}
 use Rattle.method.specs.Grounds.{monthAboveLast, monthBeforeTold, yearOutside, noCurve, bufferTooShort, Outcome, refused, done}
-use Rattle.method.specs.Sheet.{Numbers, readSheet, sheetNumbers, slots, firstFailure, rightRecord, inRange, total}
+use Rattle.method.specs.Sheet.{Numbers, readSheet, sheetNumbers, layoutOf, slotsOf, firstFailure, rightRecord, inRange, total}
 use Rattle.method.specs.Curve.{Curve, curveOf}
 use Rattle.method.specs.Enclosure.{lowOf, highOf}
 use Rattle.ledger.specs.Answers.{Finding, finding}
@@ -76,9 +76,11 @@ vacant (some c) = false
 -- 1 to 6, each by itself; 7 to 10 are the curve's own
 unfoldable pub postGrounds : Book → List ℕ → List Applies
 postGrounds b s =
-    when (not (eqb (length s) 109)) wrongLength
-    ∷ when (not (eqb (firstFailure (rightRecord s) 1 slots) 0)) (wrongRecord (firstFailure (rightRecord s) 1 slots))
-    ∷ when (not (eqb (firstFailure (inRange s) 1 slots) 0)) (outOfRange (firstFailure (inRange s) 1 slots))
+    let wrong = firstFailure (rightRecord s) 1 (slotsOf (layoutOf s)) in
+    let outside = firstFailure (inRange s) 1 (slotsOf (layoutOf s)) in
+    when (not (eqb (length s) 109 || eqb (length s) 112)) wrongLength
+    ∷ when (not (eqb wrong 0)) (wrongRecord wrong)
+    ∷ when (not (eqb outside 0)) (outOfRange outside)
     ∷ when (eqb (total (sheetNumbers s .volumes)) 0) noVolume
     ∷ when (ltb (b .told) (sheetNumbers s .month)) afterToldMonth
     ∷ when (standsAfter (b .standing) (sheetNumbers s .month)) beforeStandingCurve

@@ -34,6 +34,7 @@ pub mod Zips
 pub mod Filling
 pub mod Enclosure
 pub mod Slots
+pub mod Layouts
 pub mod Reading
 pub mod SheetBounds
 pub mod Places
