@@ -1,4 +1,5 @@
 pub mod Bodies
+pub mod Layouts
 pub mod Places
 pub mod Filling
 pub mod Trading

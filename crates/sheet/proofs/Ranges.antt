@@ -5,13 +5,13 @@ use mathlib.Core.List.{List}
 use Prim.Native.Nat.{ℕ, _+_, _≤_, _<_}
 use native.Mathlib.Omega.{arith}
 use lib.IntN.{ℤ, pos, negsuc}
-use lib.ListN.{getD, length-map}
+use lib.ListN.{length, getD, length-map}
 use lib.Signed.{mag, leZ, nonNeg}
 use borrow.Author.Tests.{leb-true}
-use Rattle.method.specs.Sheet.{lowest, highest, Slot, slots, slotAt, inRange, allNumbers, readSheet}
+use Rattle.method.specs.Sheet.{Kind, rate, volume, lowest, highest, Layout, layoutOf, Slot, slotsOf, slotAt, inRange, allNumbers, readSheet}
 use Rattle.method.specs.Ranges.{NumbersInRange}
 use Rattle.method.proofs.Outcome.{both-true}
-use Rattle.method.proofs.Slots.{slots-length, rate-slot, none-fails, number-at}
+use Rattle.method.proofs.Slots.{slots-least, rate-slot, volume-slot, none-fails, number-at}
 use Rattle.method.proofs.Reading.{firstOutside}
 use Rattle.method.proofs.SheetBounds.{read-bounds}
 use Rattle.grounds.specs.Verdicts.{asOutcome}
@@ -19,38 +19,53 @@ use Rattle.grounds.specs.declared.Verdict.the-variants.{Passed}
 use Rattle.grounds.proofs.Chain.{at-verdict}
 use Rattle.sheet.specs.declared.ReadSheet.{ReadSheet}
 use Rattle.sheet.specs.Views.{asNumbers}
-use Rattle.sheet.specs.Records.{inKind, AllInside}
+use Rattle.sheet.specs.Records.{inKind, AllInside, Run}
 
 -- ---- one number
 
-no-sign : (low high z : ℤ) → nonNeg low ≡ true → (leZ low z && leZ z high) ≡ true → nonNeg z ≡ true
-no-sign low high (pos n) p e = refl
-no-sign (pos l) high (negsuc n) p e = e
-no-sign (negsuc l) high (negsuc n) p e = p
+not-below : (low high z : ℤ) → nonNeg low ≡ true → (leZ low z && leZ z high) ≡ true → nonNeg z ≡ true
+not-below low high (pos n) p e = refl
+not-below (pos l) high (negsuc n) p e = e
+not-below (negsuc l) high (negsuc n) p e = p
 
-rate-small : (z : ℤ) → (leZ (negsuc 1_999) z && leZ z (pos 12_000)) ≡ true → mag z ≤ 12_000
+-- a kind whose range starts at 0 or above
+pub no-sign : (k : Kind) (z : ℤ) → nonNeg (lowest k) ≡ true → inKind k z ≡ true → nonNeg z ≡ true
+no-sign k z = not-below (lowest k) (highest k) z
+
+pub rate-small : (z : ℤ) → inKind rate z ≡ true → mag z ≤ 12_000
 rate-small (pos n) e = leb-true n 12_000 e
 rate-small (negsuc n) e = let h = leb-true n 1_999 (both-true _ true e .0) in omega arith
 
--- ---- the 25 numbers
+-- ---- all numbers
 
-pub all-inside : (s : List ℕ) → firstOutside s ≡ 0 → AllInside (allNumbers s)
+pub all-inside : (s : List ℕ) → firstOutside s ≡ 0 → AllInside (layoutOf s) (allNumbers s)
 all-inside s e =
     record {
-      count = simp (length-map, slots-length);
-      inside = λ i h. rw (number-at s i _ h refl) (none-fails (inRange s) 0 slots e i (rw slots-length h));
+      count = simp length-map;
+      inside = λ i h. rw (number-at s i _ h refl) (none-fails (inRange s) 0 (slotsOf (layoutOf s)) e i h);
     }
 
-module _ (zs : List ℤ) (all : AllInside zs) where
-  inside-at : (i : ℕ) (t : Slot) → i < 25 → slotAt i ≡ t → inKind (t .kind) (getD zs i (pos 0)) ≡ true
+module _ (l : Layout) (zs : List ℤ) (all : AllInside l zs) where
+  inside-at : (i : ℕ) (t : Slot) → i < length (slotsOf l) → slotAt l i ≡ t → inKind (t .kind) (getD zs i (pos 0)) ≡ true
   inside-at i t h e = rw (← e) (all .inside i h)
 
-  pub rate-inside : (i : ℕ) → i < 17 → mag (getD zs (1 + i) (pos 0)) ≤ 12_000
-  rate-inside i h = rate-small (getD zs (1 + i) (pos 0)) (inside-at (1 + i) _ (omega arith) (rate-slot i h))
+  pub rate-run : Run rate 1 17 zs
+  rate-run =
+      record {
+        long = omega (arith, all .count, slots-least l);
+        inside = λ i h. inside-at (1 + i) _ (omega (arith, slots-least l)) (rate-slot l i h);
+      }
 
-  -- a number of a kind whose range starts at 0 or above
-  pub unsigned-inside : (i : ℕ) (t : Slot) → i < 25 → slotAt i ≡ t → nonNeg (lowest (t .kind)) ≡ true → nonNeg (getD zs i (pos 0)) ≡ true
-  unsigned-inside i t h e p = no-sign (lowest (t .kind)) (highest (t .kind)) (getD zs i (pos 0)) p (inside-at i t h e)
+  pub volume-run : Run volume 18 5 zs
+  volume-run =
+      record {
+        long = omega (arith, all .count, slots-least l);
+        inside = λ i h. inside-at (18 + i) _ (omega (arith, slots-least l)) (volume-slot l i h);
+      }
+
+  pub unsigned-inside : (i : ℕ) (t : Slot) → i < length (slotsOf l) → slotAt l i ≡ t → nonNeg (lowest (t .kind)) ≡ true →
+      (i < length zs) × (nonNeg (getD zs i (pos 0)) ≡ true)
+  unsigned-inside i t h e p = (rw (all .count) h, no-sign (t .kind) (getD zs i (pos 0)) p (inside-at i t h e))
 
 -- ---- for callers
 

@@ -6,27 +6,33 @@ use Prim.Native.Nat.{ℕ, zero, suc, _+_, _≤_, _<_}
 use lib.IntN.{ℤ, pos}
 use lib.ListN.{length, getD}
 use lib.Signed.{leZ}
-use Rattle.method.specs.Sheet.{Kind, bodyLength, lowest, highest, slotAt}
+use Rattle.method.specs.Sheet.{Kind, bodyLength, lowest, highest, Layout, slotsOf, slotAt}
+use Rattle.sheet.specs.declared.Entry.{Entry}
 use Rattle.sheet.specs.declared.Slot.{Slot}
-use Rattle.sheet.specs.Views.{asKind, asSlot}
+use Rattle.sheet.specs.Views.{asKind}
+
+-- what is due at index i, the same under every layout that has this index
+pub record Due (i : ℕ) (e : Entry) : Type 0 where
+  pub kind : (l : Layout) → i < length (slotsOf l) → asKind (e .kind) ≡ slotAt l i .kind
+  pub maturity : (l : Layout) → i < length (slotsOf l) → e .maturity ≡ slotAt l i .maturity
 
 -- the byte after the record's last
 abbrev pub endOf : Slot → ℕ
 endOf t = t .start + 1 + bodyLength (asKind (t .kind))
 
--- the slot at index i, whose record ends within a sheet
-pub record InSlot (i : ℕ) (t : Slot) : Type 0 where
-  pub slot : asSlot t ≡ slotAt i
-  pub within : endOf t ≤ 109
-
 -- a number in the range of its kind
 abbrev pub inKind : Kind → ℤ → Bool
 inKind k z = leZ (lowest k) z && leZ z (highest k)
 
--- 25 numbers, each in the range of its slot
-pub record AllInside (zs : List ℤ) : Type 0 where
-  pub count : length zs ≡ 25
-  pub inside : (i : ℕ) → i < 25 → inKind (slotAt i .kind) (getD zs i (pos 0)) ≡ true
+-- as many numbers as the layout has slots, each in the range of its slot
+pub record AllInside (l : Layout) (zs : List ℤ) : Type 0 where
+  pub count : length zs ≡ length (slotsOf l)
+  pub inside : (i : ℕ) → i < length (slotsOf l) → inKind (slotAt l i .kind) (getD zs i (pos 0)) ≡ true
+
+-- n numbers of one kind, from index m on, each in range
+pub record Run (k : Kind) (m n : ℕ) (zs : List ℤ) : Type 0 where
+  pub long : m + n ≤ length zs
+  pub inside : (i : ℕ) → i < n → inKind k (getD zs (m + i) (pos 0)) ≡ true
 
 -- a place, or another where it is 0
 abbrev pub orElse : ℕ → ℕ → ℕ

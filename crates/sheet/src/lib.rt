@@ -10,12 +10,12 @@ ghost use lib.IntN.{pos, natAbs};
 ghost use lib.Signed.{nonNeg};
 ghost use lib.ListN.{length, take, drop, getD};
 ghost use Rattle.method.specs.Grounds.{refused};
-ghost use Rattle.method.specs.Sheet.{kindByte, maturityBytes, numberBytes, bodyLength, lowest, highest, maturities, slots, slotAt};
+ghost use Rattle.method.specs.Sheet.{kindByte, maturityBytes, numberBytes, bodyLength, lowest, highest, maturities, layoutOf, sizeOf, slotsOf};
 ghost use Rattle.method.specs.Sheet.{bodyOf, twosComplement16, reading, numberOfRecord, rightRecord, inRange, firstFailure};
-ghost use Rattle.method.specs.Sheet.{allNumbers, total, numbersOf, readSheet};
+ghost use Rattle.method.specs.Sheet.{rate, volume, total, numbersOf, readSheet};
 ghost use Rattle.grounds.specs.Verdicts.{asGround, asOutcome, resultOr};
-ghost use Rattle.sheet.specs.Views.{asKind, asSlot, asNumbers, noNumbers};
-ghost use Rattle.sheet.specs.Records.{endOf, InSlot, inKind, AllInside, orElse};
+ghost use Rattle.sheet.specs.Views.{asLayout, asKind, asSlot, asNumbers, noNumbers};
+ghost use Rattle.sheet.specs.Records.{Due, endOf, inKind, AllInside, Run, orElse};
 
 pub struct Numbers {
     pub month: u64,
@@ -23,6 +23,7 @@ pub struct Numbers {
     pub volumes: [u64; 5],
     pub ultimate: u64,
     pub limit: u64,
+    pub phase_in: u64,
 }
 
 // The numbers are all zero where the sheet is refused.
@@ -31,15 +32,27 @@ pub struct ReadSheet {
     pub numbers: Numbers,
 }
 
+// Which records a sheet has: whether the phase-in's stands last.
+pub struct Layout {
+    pub phased: bool,
+}
+
 pub enum Kind {
     Month,
     Rate,
     Volume,
     Ultimate,
     Limit,
+    PhaseIn,
 }
 
-// What is due at one place of the sheet, and the byte at which its record starts.
+// What is due at one place of the sheet.
+pub struct Entry {
+    pub kind: Kind,
+    pub maturity: u64,
+}
+
+// The same, with the byte at which the record starts.
 pub struct Slot {
     pub kind: Kind,
     pub maturity: u64,
@@ -52,21 +65,46 @@ struct Form(u8, usize, usize);
 // The lowest number and the highest.
 struct Range(i64, i64);
 
-// One record: whether its kind and maturity are due, whether its number is in range, and the number.
+// One record: whether its kind and maturity are due, whether its number is in range, the number, and the byte after the record.
 struct Reading {
     right: bool,
     inside: bool,
     number: i64,
+    next: usize,
 }
 
-// All 25: the places of the first wrong record and of the first number outside, from 1; 0 where there is none.
+// All records: the places of the first wrong one and of the first number outside, from 1; 0 where there is none.
+// As many numbers count as the layout has records.
 struct Records {
     wrong: u64,
     outside: u64,
-    numbers: [i64; 25],
+    numbers: [i64; 26],
 }
 
-// ---- the 25 slots
+// ---- the layout
+
+// By the bytes alone: past the 25 records that every sheet has, more can only be the phase-in's.
+pub fn layout_of(sheet: &[u8]) -> Layout
+    ensures { λ r. ⌜ asLayout r ≡ layoutOf (now (sheet .entry)) ⌝ }
+{
+    Layout {
+        phased: 109 < sheet.len(),
+    }
+}
+
+pub fn size_of(layout: Layout) -> usize
+    ensures { λ r. ⌜ r ≡ sizeOf (asLayout layout) ⌝ }
+{
+    if layout.phased { 112 } else { 109 }
+}
+
+fn count_of(layout: Layout) -> usize
+    ensures { λ r. ⌜ (r ≡ length (slotsOf (asLayout layout))) × (r ≤ 26) ⌝ }
+{
+    if layout.phased { 26 } else { 25 }
+}
+
+// ---- what is due
 
 const MATURITIES: [u8; 17] = [1, 2, 3, 4, 5, 6, 7, 8, 9, 10, 12, 15, 20, 25, 30, 40, 50];
 
@@ -86,6 +124,7 @@ fn form_of(k: Kind) -> Form
         Kind::Volume => Form(0x03, 1, 4),
         Kind::Ultimate => Form(0x04, 0, 2),
         Kind::Limit => Form(0x05, 0, 4),
+        Kind::PhaseIn => Form(0x06, 0, 2),
     }
 }
 
@@ -98,45 +137,46 @@ fn range_of(k: Kind) -> Range
         Kind::Volume => Range(0, 1_000_000),
         Kind::Ultimate => Range(0, 10_000),
         Kind::Limit => Range(1, 100_000),
+        Kind::PhaseIn => Range(10_000, 20_000),
     }
 }
 
-// SPECIFICATION 2.1. The volumes' maturities are the last five of the table.
-pub fn slot_at(i: usize) -> Slot
-    requires { ⌜ i < 25 ⌝ }
-    ensures { λ r. ⌜ InSlot i r ⌝ }
+// SPECIFICATION 2.1: what is due at index i, under any layout. The volumes' maturities are the last five of the table.
+pub fn entry_at(i: usize) -> Entry
+    requires { ⌜ i < 26 ⌝ }
+    ensures { λ r. ⌜ Due i r ⌝ }
 {
     if i == 0 {
-        Slot {
+        Entry {
             kind: Kind::Month,
             maturity: 0,
-            start: 0,
         }
     } else if i < 18 {
         let j = i - 1;
-        Slot {
+        Entry {
             kind: Kind::Rate,
             maturity: maturity(j),
-            start: 3 + 4 * j,
         }
     } else if i < 23 {
         let j = i - 18;
-        Slot {
+        Entry {
             kind: Kind::Volume,
             maturity: maturity(12 + j),
-            start: 71 + 6 * j,
         }
     } else if i == 23 {
-        Slot {
+        Entry {
             kind: Kind::Ultimate,
             maturity: 0,
-            start: 101,
         }
-    } else {
-        Slot {
+    } else if i == 24 {
+        Entry {
             kind: Kind::Limit,
             maturity: 0,
-            start: 104,
+        }
+    } else {
+        Entry {
+            kind: Kind::PhaseIn,
+            maturity: 0,
         }
     }
 }
@@ -192,6 +232,7 @@ fn signed(k: Kind, n: u64) -> i64
         Kind::Volume => z,
         Kind::Ultimate => z,
         Kind::Limit => z,
+        Kind::PhaseIn => z,
     }
 }
 
@@ -203,13 +244,13 @@ fn in_range(k: Kind, z: i64) -> bool
     if range.0 <= z { z <= range.1 } else { false }
 }
 
-fn read_record(sheet: &[u8], i: usize) -> Reading
-    requires { ⌜ (length (now sheet) ≡ 109) × (i < 25) ⌝ }
-    ensures right { λ r. ⌜ r .right ≡ rightRecord (now (sheet .entry)) (slotAt i) ⌝ }
-    ensures inside { λ r. ⌜ r .inside ≡ inRange (now (sheet .entry)) (slotAt i) ⌝ }
-    ensures number { λ r. ⌜ r .number ≡ numberOfRecord (now (sheet .entry)) (slotAt i) ⌝ }
+fn read_record(sheet: &[u8], slot: Slot) -> Reading
+    requires { ⌜ endOf slot ≤ length (now sheet) ⌝ }
+    ensures right { λ r. ⌜ r .right ≡ rightRecord (now (sheet .entry)) (asSlot slot) ⌝ }
+    ensures inside { λ r. ⌜ r .inside ≡ inRange (now (sheet .entry)) (asSlot slot) ⌝ }
+    ensures number { λ r. ⌜ r .number ≡ numberOfRecord (now (sheet .entry)) (asSlot slot) ⌝ }
+    ensures next { λ r. ⌜ r .next ≡ endOf slot ⌝ }
 {
-    let slot = slot_at(i);
     let kind = slot.kind;
     let form = form_of(kind);
     let from = form.1;
@@ -219,6 +260,7 @@ fn read_record(sheet: &[u8], i: usize) -> Reading
         right: right_record(sheet, slot, b),
         inside: in_range(kind, z),
         number: z,
+        next: slot.start + 1 + b.len(),
     }
 }
 
@@ -234,24 +276,34 @@ fn kept(found: u64, passes: bool, place: u64) -> u64
     if passes { 0 } else { place }
 }
 
-// Each record is read once, for both tests and its number.
-fn read_records(sheet: &[u8]) -> Records
-    requires { ⌜ length (now sheet) ≡ 109 ⌝ }
-    ensures wrong { λ r. ⌜ r .wrong ≡ firstFailure (rightRecord (now (sheet .entry))) 1 slots ⌝ }
-    ensures outside { λ r. ⌜ r .outside ≡ firstFailure (inRange (now (sheet .entry))) 1 slots ⌝ }
-    ensures numbers { λ r. ⌜ r .numbers ≡ allNumbers (now (sheet .entry)) ⌝ }
+// Each record is read once, for both tests and its number, and starts where the one before it ends.
+fn read_records(sheet: &[u8], layout: Layout) -> Records
+    requires { ⌜ length (now sheet) ≡ sizeOf (asLayout layout) ⌝ }
+    ensures wrong { λ r. ⌜ r .wrong ≡ firstFailure (rightRecord (now (sheet .entry))) 1 (slotsOf (asLayout layout)) ⌝ }
+    ensures outside { λ r. ⌜ r .outside ≡ firstFailure (inRange (now (sheet .entry))) 1 (slotsOf (asLayout layout)) ⌝ }
+    ensures numbers { λ r. ⌜ take (length (slotsOf (asLayout layout))) (r .numbers) ≡ map (numberOfRecord (now (sheet .entry))) (slotsOf (asLayout layout)) ⌝ }
 {
+    let count = count_of(layout);
     let mut wrong: u64 = 0;
     let mut outside: u64 = 0;
-    let mut numbers = [0i64; 25];
+    let mut numbers = [0i64; 26];
+    let mut start: usize = 0;
     let mut i: usize = 0;
-    while i < 25 {
-        let record = read_record(sheet, i);
+    while i < count {
+        let due = entry_at(i);
+        let kind = due.kind;
+        let slot = Slot {
+            kind: kind,
+            maturity: due.maturity,
+            start: start,
+        };
+        let record = read_record(sheet, slot);
         let place = i as u64 + 1;
         wrong = kept(wrong, record.right, place);
         outside = kept(outside, record.inside, place);
         let z = record.number;
         numbers[i] = z;
+        start = record.next;
         i += 1;
     }
     Records {
@@ -263,8 +315,8 @@ fn read_records(sheet: &[u8]) -> Records
 
 // ---- the numbers of a sheet whose records pass
 
-fn rates(numbers: &[i64; 25]) -> [i16; 17]
-    requires { ⌜ AllInside (now numbers) ⌝ }
+fn rates(numbers: &[i64]) -> [i16; 17]
+    requires { ⌜ Run rate 1 17 (now numbers) ⌝ }
     ensures { λ r. ⌜ r ≡ take 17 (drop 1 (now (numbers .entry))) ⌝ }
 {
     let mut rates = [0i16; 17];
@@ -277,15 +329,15 @@ fn rates(numbers: &[i64; 25]) -> [i16; 17]
 }
 
 // The cast loses nothing where the kind has no sign.
-fn unsigned(numbers: &[i64; 25], i: usize) -> u64
-    requires { ⌜ (i < 25) × (nonNeg (getD (now numbers) i (pos 0)) ≡ true) ⌝ }
+fn unsigned(numbers: &[i64], i: usize) -> u64
+    requires { ⌜ (i < length (now numbers)) × (nonNeg (getD (now numbers) i (pos 0)) ≡ true) ⌝ }
     ensures { λ r. ⌜ r ≡ natAbs (getD (now (numbers .entry)) i (pos 0)) ⌝ }
 {
     numbers[i] as u64
 }
 
-fn volumes(numbers: &[i64; 25]) -> [u64; 5]
-    requires { ⌜ AllInside (now numbers) ⌝ }
+fn volumes(numbers: &[i64]) -> [u64; 5]
+    requires { ⌜ Run volume 18 5 (now numbers) ⌝ }
     ensures { λ r. ⌜ r ≡ map natAbs (take 5 (drop 18 (now (numbers .entry)))) ⌝ }
 {
     let mut volumes = [0u64; 5];
@@ -297,9 +349,21 @@ fn volumes(numbers: &[i64; 25]) -> [u64; 5]
     volumes
 }
 
-fn numbers_of(numbers: &[i64; 25]) -> Numbers
-    requires { ⌜ AllInside (now numbers) ⌝ }
-    ensures { λ r. ⌜ asNumbers r ≡ numbersOf (now (numbers .entry)) ⌝ }
+// A sheet without the record counts as one with 10,000.
+fn phase_in(numbers: &[i64], layout: Layout) -> u64
+    requires { ⌜ AllInside (asLayout layout) (now numbers) ⌝ }
+    ensures { λ r. ⌜ r ≡ cond (layout .phased) (natAbs (getD (now (numbers .entry)) 25 (pos 0))) 10_000 ⌝ }
+{
+    if layout.phased {
+        unsigned(numbers, 25)
+    } else {
+        10_000
+    }
+}
+
+fn numbers_of(numbers: &[i64], layout: Layout) -> Numbers
+    requires { ⌜ AllInside (asLayout layout) (now numbers) ⌝ }
+    ensures { λ r. ⌜ asNumbers r ≡ numbersOf (asLayout layout) (now (numbers .entry)) ⌝ }
 {
     Numbers {
         month: unsigned(numbers, 0),
@@ -307,6 +371,7 @@ fn numbers_of(numbers: &[i64; 25]) -> Numbers
         volumes: volumes(numbers),
         ultimate: unsigned(numbers, 23),
         limit: unsigned(numbers, 24),
+        phase_in: phase_in(numbers, layout),
     }
 }
 
@@ -336,6 +401,7 @@ fn refused(g: Ground) -> ReadSheet
             volumes: [0u64; 5],
             ultimate: 0,
             limit: 0,
+            phase_in: 0,
         },
     }
 }
@@ -345,10 +411,11 @@ pub fn read(sheet: &[u8]) -> ReadSheet
     ensures outcome { λ r. ⌜ asOutcome (r .verdict) (asNumbers (r .numbers)) ≡ readSheet (now (sheet .entry)) ⌝ }
     ensures beside { λ r. ⌜ asNumbers (r .numbers) ≡ resultOr noNumbers (readSheet (now (sheet .entry))) ⌝ }
 {
-    if sheet.len() != 109 {
+    let layout = layout_of(sheet);
+    if sheet.len() != size_of(layout) {
         return refused(Ground::WrongLength);
     }
-    let records = read_records(sheet);
+    let records = read_records(sheet, layout);
     let wrong = records.wrong;
     if wrong != 0 {
         return refused(Ground::WrongRecord(wrong));
@@ -358,7 +425,8 @@ pub fn read(sheet: &[u8]) -> ReadSheet
         return refused(Ground::OutOfRange(outside));
     }
     let all = records.numbers;
-    let numbers = numbers_of(&all);
+    let count = count_of(layout);
+    let numbers = numbers_of(&all[..count], layout);
     let volumes = numbers.volumes;
     if !traded(volumes) {
         return refused(Ground::NoVolume);

@@ -9,7 +9,7 @@ use mir.Val.{SFits}
 use mir.Facts.{sfits-widen}
 use mir.ValLaws.{toZ-ofZ}
 use Rattle.sheet.proofs.Filling.{Filled, filled-none, filled-more, filled-all, part-length, part-at}
-use Rattle.sheet.proofs.Ranges.{rate-inside}
+use Rattle.sheet.proofs.Ranges.{rate-small}
 use borrow.Author.Needs.{needs}
 use Rattle.sheet.proofs.rates.Statement.{statement}
 use Rattle.sheet.proofs.rates.Tie as tie
@@ -29,14 +29,15 @@ add-rates c = search needs
 mul-rates : tie.Need-mul-rates Inv-loop μ-loop
 mul-rates c = search needs
 
-element-copy-out-rates : tie.Need-element-copy-out-rates Inv-loop μ-loop
-element-copy-out-rates c = search needs
+shared-slice-copy-out-rates : tie.Need-shared-slice-copy-out-rates Inv-loop μ-loop
+shared-slice-copy-out-rates c = search needs
 
 -- a rate in its range
 fits : (c : tie.After-rates Inv-loop μ-loop) → SFits w16 (getD (c .before .before .before .args .numbers .now) (1 + c .before .before .loop .i) (pos 0))
 fits c =
     let at = c .before .before in
-    record { sfits = omega (arith, rate-inside (at .before .args .numbers .now) (at .before .pre) (at .loop .i) (c .before .loop-test .taken)) }
+    let z = getD (at .before .args .numbers .now) (1 + at .loop .i) (pos 0) in
+    record { sfits = omega (arith, rate-small z (at .before .pre .inside (at .loop .i) (c .before .loop-test .taken))) }
 
 cast-rates : tie.Need-cast-rates Inv-loop μ-loop
 cast-rates c = rw (toZ-ofZ w64 _ (sfits-widen tt (fits c))) (fits c)
@@ -76,7 +77,7 @@ rates-spec =
     loop-holds
     add-rates
     mul-rates
-    element-copy-out-rates
+    shared-slice-copy-out-rates
     cast-rates
     mul-rates-2
     array-set-from-rates

@@ -1,32 +1,73 @@
--- Invariant: the first places before the index are kept, and the numbers before it are the definition's.
-use mathlib.Core.Path.{refl, sym, _∙_}
-use Prim.Native.Nat.{_-_}
+-- Invariant: the cursor stands where record i starts, the first places before the index are kept, and the numbers before it are the definition's.
+use mathlib.Core.Path.{_≡_, sym, ap, _∙_}
+use mathlib.Core.List.{List, map}
+use Prim.Native.Nat.{ℕ, _+_, _-_, _≤_, _<_}
 use native.Mathlib.Omega.{arith}
-use lib.IntN.{pos}
-use lib.ListN.{length-map}
+use lib.IntN.{ℤ, pos}
+use lib.ListN.{length, take, replicate, length-map, List·getD-map}
+use lib.Seq.{take-set-lt, length-take-le}
 use mir.Syntax.{w64}
 use mir.ValLaws.{toZ-ofZ}
 use denote.Ref.{now}
-use Rattle.method.specs.Sheet.{rightRecord, inRange, allNumbers}
-use Rattle.method.proofs.Slots.{slots-length, number-at}
+use Rattle.method.specs.Sheet.{rightRecord, inRange, numberOfRecord, Layout, slotsOf, slot, noSlot, slotAt}
+use Rattle.method.proofs.Slots.{slots-most}
+use Rattle.sheet.specs.Views.{asLayout, asKind}
+use Rattle.sheet.proofs.Layouts.{cursor, cursor-first, cursor-most, slot-here, slot-end}
 use Rattle.sheet.proofs.Filling.{Filled, filled-none, filled-more, filled-all}
 use Rattle.sheet.proofs.Places.{Found, found-none, found-more, found-all}
 use borrow.Author.Needs.{needs}
 use Rattle.sheet.proofs.read_records.Statement.{statement}
 use Rattle.sheet.proofs.read_records.Tie as tie
 
+record Read (s : List ℕ) (l : Layout) (wrong outside : ℕ) (numbers : List ℤ) (start i : ℕ) : Type 0 where
+  at : start ≡ cursor l i
+  right : Found (rightRecord s) (slotsOf l) wrong i
+  inside : Found (inRange s) (slotsOf l) outside i
+  filled : Filled (map (numberOfRecord s) (slotsOf l)) (take (length (slotsOf l)) numbers) i
+
+-- for each layout with the count of slots
 abbrev Inv-loop : tie.InvT-loop
-Inv-loop sheet wrong₀ outside₀ numbers₀ i₀ wrong outside numbers i =
-    Found (rightRecord sheet) wrong i × Found (inRange sheet) outside i × Filled (allNumbers sheet) numbers i
+Inv-loop sheet count wrong₀ outside₀ numbers₀ start₀ i₀ wrong outside numbers start i =
+    (l : Layout) → count ≡ length (slotsOf l) → Read sheet l wrong outside numbers start i
 
 abbrev μ-loop : tie.MeasureT-loop
-μ-loop sheet wrong₀ outside₀ numbers₀ i₀ wrong outside numbers i = 25 - i
+μ-loop sheet count wrong₀ outside₀ numbers₀ start₀ i₀ wrong outside numbers start i = count - i
+
+count-of-requires : tie.Need-count-of-requires Inv-loop μ-loop
+count-of-requires c κs = search needs
 
 loop-holds : tie.Need-loop-holds Inv-loop μ-loop
-loop-holds c = (found-none _, found-none _, filled-none _ _ (rw (length-map, slots-length)))
+loop-holds c = λ l e.
+    let n = length (slotsOf l) in
+    let zeros = replicate 26 (pos 0) in
+    let long : length (take n zeros) ≡ n = length-take-le n zeros (slots-most l) in
+    record {
+      at = sym (cursor-first l);
+      right = found-none (rightRecord (c .before .before .args .sheet .now)) (slotsOf l);
+      inside = found-none (inRange (c .before .before .args .sheet .now)) (slotsOf l);
+      filled = filled-none _ _ (rw length-map long);
+    }
+
+-- the slot that is read is the one that is due
+here : (c : tie.After-entry-at Inv-loop μ-loop) (l : Layout) → c .before .before .before .count-of .result ≡ length (slotsOf l) →
+    let e = c .entry-at .result in
+    let at = c .before .before .loop in
+    slot (asKind (e .kind)) (e .maturity) (at .start) ≡ slotAt l (at .i)
+here c l e =
+    let at = c .before .before .loop in
+    slot-here l (c .entry-at .result) (at .i) (at .start) (c .entry-at .ensures) (rw e at (c .before .loop-test .taken)) (at .inv l e .at)
+
+entry-at-requires : tie.Need-entry-at-requires Inv-loop μ-loop
+entry-at-requires c κs = search needs
 
 read-record-requires : tie.Need-read-record-requires Inv-loop μ-loop
-read-record-requires c κs = search needs
+read-record-requires c κs =
+    let at = c .before .before in
+    let start = at .before .before .before in
+    let l = asLayout (start .args .layout) in
+    let e = at .before .count-of .ensures .0 in
+    let i = at .loop .i in
+    omega (arith, start .pre, slot-end l _ i (rw e at (c .before .loop-test .taken)) (here c l e), cursor-most l (i + 1))
 
 add-place : tie.Need-add-place Inv-loop μ-loop
 add-place c = search needs
@@ -50,25 +91,35 @@ loop-less : tie.Need-loop-less Inv-loop μ-loop
 loop-less c = search needs
 
 loop-again : tie.Need-loop-again Inv-loop μ-loop
-loop-again c =
+loop-again c = λ l e.
     let read = c .before .before .before in
-    let at = read .before .before in
-    let l = at .loop in
-    let h = read .before .loop-test .taken in
-    let s = now (at .before .before .args .sheet) in
-    let one = read .read-record in (
-      rw (c .before .before .kept .ensures) (found-more (rightRecord s) (l .wrong) (l .i) _ h (one .ensures .0) (l .inv .0)),
-      rw (c .before .kept2 .ensures) (found-more (inRange s) (l .outside) (l .i) _ h (one .ensures .1 .0) (l .inv .1)),
-      filled-more _ _ (l .i) _ (pos 0) (l .inv .2) (rw (length-map, slots-length) h)
-          (toZ-ofZ w64 _ (omega arith) ∙ one .ensures .1 .1 ∙ sym (number-at s (l .i) _ h refl)),
-    )
+    let at = read .before .before .before in
+    let before = at .loop .inv l e in
+    let i = at .loop .i in
+    let h : i < length (slotsOf l) = rw e at (read .before .before .loop-test .taken) in
+    let s = now (at .before .before .before .args .sheet) in
+    let one = read .read-record .ensures in
+    let this = here (read .before) l e in
+    record {
+      at = one .1 .1 .1 ∙ slot-end l _ i h this;
+      right = rw (c .before .before .kept .ensures) (found-more (rightRecord s) _ (at .loop .wrong) i _ h (one .0 ∙ ap (rightRecord s) this) (before .right));
+      inside = rw (c .before .kept2 .ensures) (found-more (inRange s) _ (at .loop .outside) i _ h (one .1 .0 ∙ ap (inRange s) this) (before .inside));
+      filled =
+          rw (take-set-lt (length (slotsOf l)) (at .loop .numbers) i _ h)
+          (filled-more _ _ i _ (numberOfRecord s noSlot) (before .filled) (rw length-map h)
+          (toZ-ofZ w64 _ (omega arith) ∙ one .1 .1 .0 ∙ ap (numberOfRecord s) this ∙ sym (List·getD-map (numberOfRecord s) (slotsOf l) i noSlot)));
+    }
 
 returns : tie.Need-returns Inv-loop μ-loop
 returns c =
-    let l = c .before .loop in
-    let h = c .loop-test .left in (
-      found-all _ (l .wrong) (l .i) h (l .inv .0),
-      (found-all _ (l .outside) (l .i) h (l .inv .1), filled-all _ _ (l .i) (l .inv .2) (rw (length-map, slots-length) h)),
+    let at = c .before in
+    let l = asLayout (at .before .before .before .args .layout) in
+    let e = at .before .count-of .ensures .0 in
+    let i = at .loop .i in
+    let h : length (slotsOf l) ≤ i = rw e at (c .loop-test .left) in
+    let all = at .loop .inv l e in (
+      found-all _ _ (at .loop .wrong) i h (all .right),
+      (found-all _ _ (at .loop .outside) i h (all .inside), filled-all _ _ i (all .filled) (rw length-map h)),
     )
 
 pub read-records-spec : {M : Type 1} → statement M
@@ -77,7 +128,9 @@ read-records-spec =
     (tie.spec
     Inv-loop
     μ-loop
+    count-of-requires
     loop-holds
+    entry-at-requires
     read-record-requires
     add-place
     kept-requires

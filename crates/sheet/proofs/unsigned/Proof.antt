@@ -12,8 +12,8 @@ use Rattle.sheet.proofs.unsigned.Tie as tie
 mul-result : tie.Need-mul-result
 mul-result c = search needs
 
-element-copy-out-result : tie.Need-element-copy-out-result
-element-copy-out-result c = search needs
+shared-slice-copy-out-result : tie.Need-shared-slice-copy-out-result
+shared-slice-copy-out-result c = search needs
 
 fits : (c : tie.After-result) → SFits w64 (getD (c .before .args .numbers .now) (c .before .args .i) (pos 0))
 fits c = record { sfits = c .result .given }
@@ -25,4 +25,4 @@ returns : tie.Need-returns
 returns c = rw (toZ-ofZ w64 _ (fits c))
 
 pub unsigned-spec : {M : Type 1} → statement M
-unsigned-spec = tie.close (tie.spec mul-result element-copy-out-result cast-result returns)
+unsigned-spec = tie.close (tie.spec mul-result shared-slice-copy-out-result cast-result returns)

@@ -4,10 +4,10 @@ use mathlib.Core.List.{map}
 use Prim.Native.Nat.{_+_, _-_}
 use native.Mathlib.Omega.{arith}
 use lib.IntN.{pos, natAbs}
-use lib.ListN.{take, drop, length-map, List·getD-map}
-use Rattle.method.proofs.Slots.{volume-slot}
+use lib.ListN.{take, drop, getD, length-map, List·getD-map}
+use Rattle.method.specs.Sheet.{volume}
 use Rattle.sheet.proofs.Filling.{Filled, filled-none, filled-more, filled-all, part-length, part-at}
-use Rattle.sheet.proofs.Ranges.{unsigned-inside}
+use Rattle.sheet.proofs.Ranges.{no-sign}
 use borrow.Author.Needs.{needs}
 use Rattle.sheet.proofs.volumes.Statement.{statement}
 use Rattle.sheet.proofs.volumes.Tie as tie
@@ -28,7 +28,8 @@ unsigned-requires : tie.Need-unsigned-requires Inv-loop μ-loop
 unsigned-requires c κs =
     let at = c .before in
     let i = at .loop .i in
-    (omega arith, unsigned-inside (at .before .args .numbers .now) (at .before .pre) (18 + i) _ (omega arith) (volume-slot i (c .loop-test .taken)) refl)
+    let z = getD (at .before .args .numbers .now) (18 + i) (pos 0) in
+    (omega (arith, at .before .pre .long), no-sign volume z refl (at .before .pre .inside i (c .loop-test .taken)))
 
 mul-volumes : tie.Need-mul-volumes Inv-loop μ-loop
 mul-volumes c = search needs

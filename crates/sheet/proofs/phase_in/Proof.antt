@@ -1,0 +1,22 @@
+-- Index 25 where the layout has the record, 10,000 where it has not.
+use mathlib.Core.Path.{refl}
+use native.Mathlib.Omega.{arith}
+use Rattle.method.proofs.Slots.{slots-phased, phase-in-slot}
+use Rattle.sheet.proofs.Ranges.{unsigned-inside}
+use borrow.Author.Needs.{needs}
+use Rattle.sheet.proofs.phase_in.Statement.{statement}
+use Rattle.sheet.proofs.phase_in.Tie as tie
+
+unsigned-requires : tie.Need-unsigned-requires
+unsigned-requires c κs =
+    let phased = c .if1 .taken in
+    unsigned-inside _ _ (c .before .pre) 25 _ (omega (arith, slots-phased _ phased)) (phase-in-slot _ phased) refl
+
+returns : tie.Need-returns
+returns c = rw (c .before .if1 .taken) (c .unsigned .ensures)
+
+returns-2 : tie.Need-returns-2
+returns-2 c = search needs
+
+pub phase-in-spec : {M : Type 1} → statement M
+phase-in-spec = tie.close (tie.spec unsigned-requires returns returns-2)
