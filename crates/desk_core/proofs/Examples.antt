@@ -41,6 +41,15 @@ cut-body : printed (records ++ (0x4D ∷ 0x00 ∷ [])) ≡ lines ++ x-10
 unfolding opens records lines x-10
 cut-body = refl
 
+-- a sheet with a byte less than its length says; a length of one byte
+cut-sheet : printed (records ++ (0x50 ∷ 0x00 ∷ 0x03 ∷ 7 ∷ 8 ∷ [])) ≡ lines ++ x-10
+unfolding opens records lines x-10
+cut-sheet = refl
+
+cut-length : printed (records ++ (0x50 ∷ 0x00 ∷ [])) ≡ lines ++ x-10
+unfolding opens records lines x-10
+cut-length = refl
+
 ends-before-a-kind : printed records ≡ lines
 unfolding opens records lines
 ends-before-a-kind = refl
@@ -61,11 +70,19 @@ found =
     ++ (0x20 ∷ 0x31 ∷ 0x30 ∷ 0x30 ∷ 0x30 ∷ 0x30 ∷ 0x30 ∷ 0x30 ∷ 0x30 ∷ 0x30 ∷ 0x38 ∷ [])
     ++ (0x20 ∷ 0x30 ∷ 0x20 ∷ 0x35 ∷ 0x0A ∷ [])
 
-told-posted-found : printed (0x4D ∷ 0x00 ∷ 0x05 ∷ 0x50 ∷ zeroSheet 100_000 ++ (0x4C ∷ 21 ∷ [])) ≡ found
+told-posted-found : printed (0x4D ∷ 0x00 ∷ 0x05 ∷ 0x50 ∷ 0x00 ∷ 109 ∷ zeroSheet 100_000 ++ (0x4C ∷ 21 ∷ [])) ≡ found
 unfolding opens found
 told-posted-found = refl
 
 -- 109 zeros are no sheet: R 2 1
-no-sheet : printed (0x50 ∷ replicate 109 0) ≡ 0x52 ∷ 0x20 ∷ 0x32 ∷ 0x20 ∷ 0x31 ∷ 0x0A ∷ []
+no-sheet : printed (0x50 ∷ 0x00 ∷ 109 ∷ replicate 109 0) ≡ 0x52 ∷ 0x20 ∷ 0x32 ∷ 0x20 ∷ 0x31 ∷ 0x0A ∷ []
 unfolding opens
 no-sheet = refl
+
+-- nor are 3 bytes or none, whose records are whole: R 1 0, and a year is looked up, R 14 0
+wrong-length : printed (0x50 ∷ 0x00 ∷ 0x03 ∷ 7 ∷ 8 ∷ 9 ∷ 0x50 ∷ 0x00 ∷ 0x00 ∷ 0x4C ∷ 0x01 ∷ [])
+    ≡ (0x52 ∷ 0x20 ∷ 0x31 ∷ 0x20 ∷ 0x30 ∷ 0x0A ∷ [])
+    ++ (0x52 ∷ 0x20 ∷ 0x31 ∷ 0x20 ∷ 0x30 ∷ 0x0A ∷ [])
+    ++ (0x52 ∷ 0x20 ∷ 0x31 ∷ 0x34 ∷ 0x20 ∷ 0x30 ∷ 0x0A ∷ [])
+unfolding opens
+wrong-length = refl

@@ -70,8 +70,8 @@ strange-front b (whole (asks (pageInto l)) n) h = absurd (h (asks (pageInto l)) 
 strange-front b cut h = refl
 strange-front b unknown h = refl
 
-pub unknown-by : (framed : Bool) {b : Book} {s : List ℕ} {r : Made} → Makes framed b s r → isNotKnown (r .reply) ≡ isUnknown (front framed s)
-unknown-by framed {b} {s} {r} h =
+pub unknown-by : {b : Book} {s : List ℕ} {r : Made} → Makes b s r → isNotKnown (r .reply) ≡ isUnknown (front s)
+unknown-by {b} {s} {r} h =
     strange-code (r .reply) (r .verdict) (r .month) (r .finding)
     ∙ ap strange (h .reply)
-    ∙ strange-front b (front framed s) (λ c n w. front-stands framed s [] .recorded w)
+    ∙ strange-front b (front s) (λ c n w. front-stands s [] .recorded w)

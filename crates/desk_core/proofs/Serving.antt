@@ -18,7 +18,7 @@ use Rattle.desk_core.specs.declared.Answered.{Answered}
 use Rattle.desk_core.specs.declared.Served.{Served}
 use Rattle.desk_core.specs.declared.Passed.{Passed}
 use Rattle.desk_core.specs.Lines.{lineOf}
-use Rattle.desk_core.specs.Desk.{framed, Serving, stopping, behind, lineRoom, servedAt, servedFrom, served, Desk, pass}
+use Rattle.desk_core.specs.Desk.{Serving, stopping, behind, lineRoom, servedAt, servedFrom, served, Desk, pass}
 use Rattle.desk_core.specs.Handed.{isUnknown, Answers, Serves, Waits, asDesk, Passes}
 use Rattle.desk_core.proofs.Lengths.{reply-short}
 use Rattle.desk_core.proofs.Fronts.{front-stands, cut-short, taken-within}
@@ -27,9 +27,9 @@ use Rattle.desk_core.proofs.Passes.{roomy, full, takes-nothing}
 -- ---- by what stands at the front
 
 -- no whole record: nothing is served, and nothing was put
-stops-at : (x : Front) (room : ℕ) (b : Book) (s : List ℕ) (next : ℕ → Book → List ℕ → Serving) → front framed s ≡ x → journal.taken x ≡ 0 →
+stops-at : (x : Front) (room : ℕ) (b : Book) (s : List ℕ) (next : ℕ → Book → List ℕ → Serving) → front s ≡ x → journal.taken x ≡ 0 →
     (servedAt x room b s next ≡ stopping b (isUnknown x)) × (lineOf (replyTo b x) ≡ [])
-stops-at (whole c n) room b s next e z = absurd (omega (arith, front-stands framed s [] .within e .0))
+stops-at (whole c n) room b s next e z = absurd (omega (arith, front-stands s [] .within e .0))
 stops-at cut room b s next e z = (refl, refl)
 stops-at unknown room b s next e z = (refl, refl)
 
@@ -92,7 +92,7 @@ module _ {room : ℕ} {b : Book} {held : List ℕ} {a : Book} {taken : ℕ} {tex
 
   module _ {exit : List ℕ} {r : Answered} (q : Answers a (drop taken held) text written exit r) (k : lineRoom ≤ room - written) where
     abbrev next : Front
-    next = front framed (drop taken held)
+    next = front (drop taken held)
 
     step : servedFrom (p .most) (room - written) a (drop taken held) ≡ servedAt next (room - written) a (drop taken held) (servedFrom (p .most - 1))
     step = roomy (p .most) (room - written) a (drop taken held) (omega (arith, p .enough, length-drop taken held)) k
@@ -109,7 +109,7 @@ module _ {room : ℕ} {b : Book} {held : List ℕ} {a : Book} {taken : ℕ} {tex
     pub goes-on : length exit ≡ room → 0 < r .taken → Progress room b held (asBook (r .book)) (taken + r .taken) exit (r .end)
     goes-on l h =
         let line = lineOf (replyTo a next) in
-        let inside = taken-within framed (drop taken held) in
+        let inside = taken-within (drop taken held) in
         let room-left : room - r .end ≡ room - written - length line = omega (arith, q .line .ends) in
         let walked = goes-at next (room - written) a (drop taken held) (servedFrom (p .most - 1)) (omega (arith, q .taken)) in
         record {
@@ -126,7 +126,7 @@ module _ {room : ℕ} {b : Book} {held : List ℕ} {a : Book} {taken : ℕ} {tex
 -- nothing taken and no unknown kind next: what is held is cut, so shorter than a record
 pub waits : (room : ℕ) (b : Book) (held : List ℕ) {text : List ℕ} {r : Served} → Serves (served room b held) text r →
     getD held 1 0 < 256 → getD held 2 0 < 256 → Waits room held (r .taken) (r .unknown)
-waits room b held s h k roomy z x = cut-short framed held h k (takes-nothing room b held roomy (sym (s .taken) ∙ z) (sym (s .unknown) ∙ x))
+waits room b held s h k roomy z x = cut-short held h k (takes-nothing room b held roomy (sym (s .taken) ∙ z) (sym (s .unknown) ∙ x))
 
 -- ---- the desk after a pass
 

@@ -11,14 +11,9 @@ use Rattle.journal.specs.Journal.{Front, whole, cut, unknown, front}
 use Rattle.journal.specs.Replies.{replyTo}
 use Rattle.desk_core.specs.Lines.{lineOf, brokenLine}
 
--- no length stands before a sheet
-abbrev pub framed : Bool
-framed = false
-
--- a record's bytes at most, with its kind byte; framed, a sheet has at most 65,535
-abbrev pub longestRecord : Bool → ℕ
-longestRecord true = 65_538
-longestRecord false = 110
+-- a record's bytes at most: a kind byte, the two of a length, and a sheet of 65,535
+abbrev pub longestRecord : ℕ
+longestRecord = 65_538
 
 -- ═══ All that is printed
 
@@ -35,7 +30,7 @@ printedAt unknown b offset s next = brokenLine offset
 -- for the bytes from `offset` on, at most so many lines
 unfoldable pub printedFrom : ℕ → Book → ℕ → List ℕ → List ℕ
 printedFrom zero b offset s = []
-printedFrom (suc most) b offset s = printedAt (front framed s) b offset s (printedFrom most)
+printedFrom (suc most) b offset s = printedAt (front s) b offset s (printedFrom most)
 
 -- all of them: each record takes at least a byte
 unfoldable pub printed : List ℕ → List ℕ
@@ -70,7 +65,7 @@ servedAt unknown room b s next = stopping b true
 -- at most so many records
 unfoldable pub servedFrom : ℕ → ℕ → Book → List ℕ → Serving
 servedFrom zero room b s = stopping b false
-servedFrom (suc most) room b s = cond (leb lineRoom room) (servedAt (front framed s) room b s (servedFrom most)) (stopping b false)
+servedFrom (suc most) room b s = cond (leb lineRoom room) (servedAt (front s) room b s (servedFrom most)) (stopping b false)
 
 unfoldable pub served : ℕ → Book → List ℕ → Serving
 served room b held = servedFrom (length held) room b held

@@ -12,7 +12,7 @@ use Rattle.journal.specs.Journal.{Front, whole, cut, unknown, front}
 use Rattle.journal.specs.Replies as journal
 use Rattle.journal.specs.Replies.{replyTo, bookAfter}
 use Rattle.desk_core.specs.Lines.{lineOf}
-use Rattle.desk_core.specs.Desk.{framed, longestRecord, lineRoom, Serving, Desk, opened, pass, passed, withBlock}
+use Rattle.desk_core.specs.Desk.{longestRecord, lineRoom, Serving, Desk, opened, pass, passed, withBlock}
 use Rattle.desk_core.specs.declared.Desk as code
 use Rattle.desk_core.specs.declared.Answered.{Answered}
 use Rattle.desk_core.specs.declared.Served.{Served}
@@ -39,10 +39,10 @@ isUnknown unknown = true
 
 -- the call at the front of the bytes s made on a book, its line put
 pub record Answers (b : Book) (s entry : List ℕ) (at : ℕ) (exit : List ℕ) (r : Answered) : Type 0 where
-  pub book : asBook (r .book) ≡ bookAfter b (front framed s)
-  pub taken : r .taken ≡ journal.taken (front framed s)
-  pub line : Puts (lineOf (replyTo b (front framed s))) entry at exit (r .end)
-  pub unknown : r .unknown ≡ isUnknown (front framed s)
+  pub book : asBook (r .book) ≡ bookAfter b (front s)
+  pub taken : r .taken ≡ journal.taken (front s)
+  pub line : Puts (lineOf (replyTo b (front s))) entry at exit (r .end)
+  pub unknown : r .unknown ≡ isUnknown (front s)
 
 -- ---- a pass made, with its lines at the front of a text
 
@@ -55,7 +55,7 @@ pub record Serves (p : Serving) (text : List ℕ) (r : Served) : Type 0 where
 
 -- where a pass had room for a line, took nothing and met no unknown kind, less than one record is held
 abbrev pub Waits : ℕ → List ℕ → ℕ → Bool → Type 0
-Waits room held taken strange = lineRoom ≤ room → taken ≡ 0 → strange ≡ false → length held < longestRecord framed
+Waits room held taken strange = lineRoom ≤ room → taken ≡ 0 → strange ≡ false → length held < longestRecord
 
 -- ---- the desk, with the block whose first bytes it holds
 
@@ -78,6 +78,10 @@ pub record Passes (room : ℕ) (d : Desk) (block text : List ℕ) (r : Passed) :
   pub written : r .written ≡ length (pass room d .text)
   pub text-put : take (r .written) text ≡ pass room d .text
   pub unknown : r .unknown ≡ pass room d .unknown
+
+-- a read's bytes at most
+abbrev pub mostRead : ℕ
+mostRead = 4_096
 
 -- some bytes read behind those that are held
 pub record Reads (d : code.Desk) (entry exit : List ℕ) (r : code.Desk) : Type 0 where

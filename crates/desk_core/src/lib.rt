@@ -6,18 +6,19 @@ use journal::Reply;
 use lines::put_line;
 use lines::put_reply;
 ghost use mathlib.Core.Path.{_≡_};
-ghost use Prim.Native.Nat.{_+_, _-_, _≤_, _<_};
+ghost use Prim.Native.Nat.{_+_, _-_, _≤_, _<_, min};
 ghost use lib.ListN.{length, take, drop};
 ghost use Rattle.book.specs.Views.{asBook};
 ghost use Rattle.desk_core.specs.Lines.{brokenLine};
 ghost use Rattle.desk_core.specs.Desk.{lineRoom, served};
-ghost use Rattle.desk_core.specs.Handed.{isNotKnown, Answers, Serves, Waits, asDesk, Opens, Passes, Reads};
-
-// No length stands before a sheet.
-const FRAMED: bool = false;
+ghost use Rattle.desk_core.specs.Handed.{isNotKnown, Answers, Serves, Waits, asDesk, Opens, Passes, mostRead, Reads};
 
 // Any line's room.
 const LINE_ROOM: usize = 128;
+
+// A read's bytes at most, however much room the block has: short records fill the text many times over, and each time all that is left
+// is moved down.
+const MOST_READ: usize = 4_096;
 
 // Between two passes: the book, how many bytes of the block are held, and the offset of the first of them.
 struct Desk {
@@ -68,7 +69,7 @@ fn answer(book: Book, rest: &[u8], text: &mut [u8], at: usize) -> Answered
     requires { ⌜ at + lineRoom ≤ length (now text) ⌝ }
     ensures { λ r. ⌜ Answers (asBook book) (now (rest .entry)) (now (text .entry)) at (now (text .exit)) r ⌝ }
 {
-    let made = journal::make(book, rest, FRAMED);
+    let made = journal::make(book, rest);
     let reply = made.reply;
     let verdict = made.verdict;
     let found = made.finding;
@@ -161,17 +162,35 @@ fn pass(desk: Desk, block: &mut [u8], text: &mut [u8]) -> Passed
 
 // ---- reading and writing
 
-// One read behind the bytes that are held, where there is room: so nothing more is held only at the end of the input, or where a
-// read fails.
+// One read, where there is room: so it puts nothing only at the end of the input, or where it fails.
+fn read_into(input: i32, room: &mut [u8]) -> usize
+    requires { ⌜ 0 < length (now room) ⌝ }
+    ensures { λ r. ⌜ r ≤ length (now (room .entry)) ⌝ }
+{
+    let got = libc::read(input, room);
+    io::count(got, room)
+}
+
+// Where a read behind the bytes held ends, in a block of this size.
+fn read_end(held: usize, size: usize) -> usize
+    requires { ⌜ held ≤ size ⌝ }
+    ensures { λ r. ⌜ r ≡ min (held + mostRead) size ⌝ }
+{
+    if MOST_READ < size - held {
+        return held + MOST_READ;
+    }
+    size
+}
+
+// One read behind the bytes that are held.
 fn read_more(input: i32, desk: Desk, block: &mut [u8]) -> Desk
     requires { ⌜ desk .held < length (now block) ⌝ }
     ensures { λ r. ⌜ Reads desk (now (block .entry)) (now (block .exit)) r ⌝ }
 {
     let held = desk.held;
-    let room = &mut block[held..];
-    let got = libc::read(input, room);
+    let end = read_end(held, block.len());
     let mut next = desk;
-    next.held = held + io::count(got, room);
+    next.held = held + read_into(input, &mut block[held..end]);
     next
 }
 
@@ -186,9 +205,10 @@ fn write_broken(output: i32, offset: u64, text: &mut [u8])
 // Serves the input to its end, or to an unknown kind, as `printedIn` says. A proved loop has to end, and nothing says that the input
 // does: so the passes are counted down, from a number that no run uses up.
 pub fn serve(input: i32, output: i32) {
-    let mut block_space = [0u8; 4096];
+    // The longest record fits: while none is whole, there is room to read.
+    let mut block_space = [0u8; 65_538];
     let block: &mut [u8] = &mut block_space;
-    let mut text_space = [0u8; 4096];
+    let mut text_space = [0u8; 4_096];
     let text: &mut [u8] = &mut text_space;
     let mut desk = opened();
     let mut passes = u64::MAX;

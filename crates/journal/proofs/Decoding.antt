@@ -29,29 +29,25 @@ either : (a b : Front) (t : Bool) → Some a → Some b → Some (cond t a b)
 either a b true h k = h
 either a b false h k = k
 
-sheet-at : (framed : Bool) → 0 < sheetAt framed
-sheet-at true = omega arith
-sheet-at false = omega arith
-
 record-some : (s : List ℕ) (n : ℕ) (c : Call) → 0 < n → Some (recordOf s n c)
 record-some s n c h = either (whole c n) cut (leb n (length s)) h tt
 
-pub front-some : (framed : Bool) (s : List ℕ) → Some (front framed s)
+pub front-some : (s : List ℕ) → Some (front s)
 unfolding front
-front-some framed s =
-    let post = record-some s (sheetAt framed + sheetLength framed s) (postOf (sheetIn framed s)) (omega (arith, sheet-at framed)) in
+front-some s =
+    let post = record-some s (sheetAt + sheetLength s) (postOf (sheetIn s)) (omega arith) in
     let turn = record-some s 3 (turnTo (read2 s 1)) (omega arith) in
     let look = record-some s 2 (asks (lookAt (getD s 1 0))) (omega arith) in
     let look? = either (lookFront s) unknown (eqb (getD s 0 0) 0x4C) look tt in
     let turn? = either (turnFront s) _ (eqb (getD s 0 0) 0x4D) turn look? in
-    let post? = either (postFront framed s) _ (eqb (getD s 0 0) 0x50) post turn? in
+    let post? = either (postFront s) _ (eqb (getD s 0 0) 0x50) post turn? in
     either cut _ (eqb (length s) 0) tt post?
 
 -- ---- the calls that are left
 
-pub front-end : (framed : Bool) (s : List ℕ) → length s ≤ 0 → front framed s ≡ cut
+pub front-end : (s : List ℕ) → length s ≤ 0 → front s ≡ cut
 unfolding front
-front-end framed s h = rw (eq-eqb (length s) 0 (omega arith))
+front-end s h = rw (eq-eqb (length s) 0 (omega arith))
 
 -- nothing is taken where there is no whole record
 stopped : (b : Book) (f : Front) (calls : List ℕ → List Call) (s : List ℕ) → Some f → taken f ≡ 0 → (andThen f calls s ≡ []) × (bookAfter b f ≡ b)
@@ -59,10 +55,10 @@ stopped b (whole c n) calls s h e = absurd (omega arith)
 stopped b cut calls s h e = (refl, refl)
 stopped b unknown calls s h e = (refl, refl)
 
-none-left : (most : ℕ) (s : List ℕ) → taken (front true s) ≡ 0 → decodeFrom most s ≡ []
+none-left : (most : ℕ) (s : List ℕ) → taken (front s) ≡ 0 → decodeFrom most s ≡ []
 unfolding decodeFrom
 none-left zero s h = refl
-none-left (suc most) s h = stopped fresh (front true s) (decodeFrom most) s (front-some true s) h .0
+none-left (suc most) s h = stopped fresh (front s) (decodeFrom most) s (front-some s) h .0
 
 first : (b : Book) (f : Front) (calls : List ℕ → List Call) (s : List ℕ) → 0 < taken f →
     runFrom b (andThen f calls s) ≡ runFrom (bookAfter b f) (calls (drop (taken f) s))
@@ -70,13 +66,13 @@ first b (whole c n) calls s h = refl
 first b cut calls s h = absurd (omega arith)
 first b unknown calls s h = absurd (omega arith)
 
-one-made : (b : Book) (most : ℕ) (s : List ℕ) → 0 < most → 0 < taken (front true s) →
-    runFrom b (decodeFrom most s) ≡ runFrom (bookAfter b (front true s)) (decodeFrom (most - 1) (drop (taken (front true s)) s))
+one-made : (b : Book) (most : ℕ) (s : List ℕ) → 0 < most → 0 < taken (front s) →
+    runFrom b (decodeFrom most s) ≡ runFrom (bookAfter b (front s)) (decodeFrom (most - 1) (drop (taken (front s)) s))
 unfolding decodeFrom
 one-made b zero s h t = absurd (omega arith)
 one-made b (suc most) s h t =
     let e : suc most - 1 ≡ most = omega arith in
-    rw e (first b (front true s) (decodeFrom most) s t)
+    rw e (first b (front s) (decodeFrom most) s t)
 
 -- ---- at a place
 
@@ -99,21 +95,21 @@ unfolding decode
 begins calls = record { most = length calls; within = omega arith; enough = omega arith; runs = refl }
 
 module _ (calls : List ℕ) (b : Book) (at : ℕ) (x : Reached calls b at) where
-  stopped-at : taken (front true (drop at calls)) ≡ 0 → b ≡ run (decode calls)
+  stopped-at : taken (front (drop at calls)) ≡ 0 → b ≡ run (decode calls)
   stopped-at h = sym (x .runs ∙ ap (runFrom b) (none-left (x .most) (drop at calls) h))
 
   pub ends : length calls ≤ at → b ≡ run (decode calls)
-  ends h = stopped-at (rw (front-end true (drop at calls) (omega (arith, length-drop at calls))))
+  ends h = stopped-at (rw (front-end (drop at calls) (omega (arith, length-drop at calls))))
 
-  module _ (r : Made) (m : Makes true b (lent calls at) r) where
-    made : Makes true b (drop at calls) r
+  module _ (r : Made) (m : Makes b (lent calls at) r) where
+    made : Makes b (drop at calls) r
     made = rw (lent-rest calls at) at m
 
     pub stops-here : r .taken ≡ 0 → asBook (r .book) ≡ run (decode calls)
     stops-here h =
         let rest = drop at calls in
-        let t : taken (front true rest) ≡ 0 = sym (made .bytes) ∙ h in
-        made .book ∙ stopped b (front true rest) (λ l. []) rest (front-some true rest) t .1 ∙ stopped-at t
+        let t : taken (front rest) ≡ 0 = sym (made .bytes) ∙ h in
+        made .book ∙ stopped b (front rest) (λ l. []) rest (front-some rest) t .1 ∙ stopped-at t
 
     pub goes-on : at < length calls → 0 < r .taken → Reached calls (asBook (r .book)) (at + r .taken)
     goes-on h t =
@@ -124,6 +120,6 @@ module _ (calls : List ℕ) (b : Book) (at : ℕ) (x : Reached calls b at) where
           within = omega arith;
           enough = omega arith;
           runs =
-              rw (d .book, d .bytes, ← drop-drop (taken (front true (drop at calls))) at calls)
+              rw (d .book, d .bytes, ← drop-drop (taken (front (drop at calls))) at calls)
               (x .runs ∙ one-made b (x .most) (drop at calls) (omega arith) (omega arith));
         }

@@ -1,6 +1,5 @@
 -- Every list of posts, turns and look-ups that records have room for is the meaning of some bytes.
 use mathlib.Core.Path.{_≡_, refl, ap, _∙_}
-use mathlib.Core.Bool.{true}
 use mathlib.Core.List.{List, [], _∷_, _++_}
 use Prim.Native.Nat.{ℕ, zero, suc, _+_, _*_, _/_, _%_, _≤_, _<_}
 use native.Mathlib.Omega.{arith}
@@ -26,7 +25,7 @@ some-bytes (turnTo m) h = omega arith
 some-bytes (asks (lookAt y)) h = omega arith
 some-bytes (asks (pageInto l)) h = absurd h
 
-reads-back : (c : Call) (rest : List ℕ) → Fits c → front true (encoded c ++ rest) ≡ whole c (length (encoded c))
+reads-back : (c : Call) (rest : List ℕ) → Fits c → front (encoded c ++ rest) ≡ whole c (length (encoded c))
 unfolding encoded front
 reads-back (postOf s) rest h =
     let three : 3 + length s ≡ suc (suc (suc (length s))) = omega arith in
@@ -41,7 +40,7 @@ reads-back (asks (pageInto l)) rest h = absurd h
 reads-all : (most : ℕ) (cs : List Call) → AllFit cs → length (encode cs) ≤ most → decodeFrom most (encode cs) ≡ cs
 unfolding decodeFrom
 reads-all zero [] f h = refl
-reads-all (suc most) [] f h = rw (front-end true [] (omega arith))
+reads-all (suc most) [] f h = rw (front-end [] (omega arith))
 reads-all zero (c ∷ cs) f h = absurd (omega (arith, length-append (encoded c) (encode cs), some-bytes c (f .0)))
 reads-all (suc most) (c ∷ cs) f h =
     rw (reads-back c (encode cs) (f .0), drop-append-seam (encoded c) (encode cs))

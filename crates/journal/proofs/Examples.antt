@@ -1,5 +1,4 @@
 -- Worked examples of the journal.
-use mathlib.Core.Bool.{false}
 use mathlib.Core.Path.{_≡_, refl}
 use mathlib.Core.List.{[], _∷_}
 use Rattle.ledger.specs.Calls.{postOf, turnTo, lookAt, asks}
@@ -41,11 +40,11 @@ nothing : decode [] ≡ []
 unfolding decode decodeFrom
 nothing = refl
 
--- a post's record that is not framed has 110 bytes: 109 are not enough, and its next two bytes are the sheet's own
-unframed : front false (0x50 ∷ 0 ∷ 2 ∷ 7 ∷ 8 ∷ []) ≡ cut
+-- the length's first byte counts 256s: 2 bytes are not enough
+long-sheet : front (0x50 ∷ 2 ∷ 0 ∷ 7 ∷ 8 ∷ []) ≡ cut
 unfolding front
-unframed = refl
+long-sheet = refl
 
-no-kind : front false (0x51 ∷ []) ≡ unknown
+no-kind : front (0x51 ∷ []) ≡ unknown
 unfolding front
 no-kind = refl

@@ -1,6 +1,5 @@
 -- What is handed back where a record is cut, where it is whole, and where its kind is not known.
 use mathlib.Core.Path.{_≡_, refl, ap, _∙_}
-use mathlib.Core.Bool.{Bool}
 use mathlib.Core.List.{List}
 use Prim.Native.Nat.{ℕ, _≤_, _<_}
 use native.Mathlib.Omega.{arith}
@@ -93,16 +92,16 @@ module _ (book : Book) (s : List ℕ) (n : ℕ) (room : n ≤ length s) (year : 
 
 -- ---- by the kind byte
 
-module _ (framed : Bool) (book : Book) (s : List ℕ) (r : Made) where
+module _ (book : Book) (s : List ℕ) (r : Made) where
   abbrev Made-front : Type 0
-  Made-front = MakesFront (asBook book) s (front framed s) r
+  Made-front = MakesFront (asBook book) s (front s) r
 
   pub at-end : length s ≡ 0 → NoCall book CutShort r → Made-front
   unfolding front
   at-end e n = rw (eq-eqb (length s) 0 e) (cut-made s n)
 
   module _ (some : length s ≡ 0 → ⊥) where
-    pub at-post : getD s 0 0 ≡ 0x50 → MakesFront (asBook book) s (postFront framed s) r → Made-front
+    pub at-post : getD s 0 0 ≡ 0x50 → MakesFront (asBook book) s (postFront s) r → Made-front
     unfolding front
     at-post e m = rw (ne-eqb (length s) 0 some, eq-eqb (getD s 0 0) 0x50 e) m
 

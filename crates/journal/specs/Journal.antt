@@ -1,7 +1,7 @@
 -- SPECIFICATION 11: records, calls written as bytes. Any bytes mean some list of calls.
-use mathlib.Core.Bool.{Bool, true, false, cond}
+use mathlib.Core.Bool.{cond}
 use mathlib.Core.List.{List, [], _∷_, _++_}
-use Prim.Native.Nat.{ℕ, zero, suc, _+_, _-_, _<_}
+use Prim.Native.Nat.{ℕ, zero, suc, _+_, _<_}
 use lib.Dec.{leb, eqb}
 use lib.ListN.{length, getD, take, drop}
 use Rattle.method.specs.Bytes.{bytes2}
@@ -15,18 +15,16 @@ pub data Front : Type 0 where
   cut : Front
   unknown : Front
 
--- ---- a post's record: framed, as in a journal, the sheet's length stands in two bytes before it; else the sheet has 109 bytes
+-- ---- a post's record: the kind byte, the sheet's length in two bytes, the sheet
 
-abbrev pub sheetAt : Bool → ℕ
-sheetAt true = 3
-sheetAt false = 1
+abbrev pub sheetAt : ℕ
+sheetAt = 3
 
-abbrev pub sheetLength : Bool → List ℕ → ℕ
-sheetLength true s = read2 s 1
-sheetLength false s = 109
+abbrev pub sheetLength : List ℕ → ℕ
+sheetLength s = read2 s 1
 
-abbrev pub sheetIn : Bool → List ℕ → List ℕ
-sheetIn framed s = take (sheetLength framed s) (drop (sheetAt framed) s)
+abbrev pub sheetIn : List ℕ → List ℕ
+sheetIn s = take (sheetLength s) (drop sheetAt s)
 
 -- ---- any record
 
@@ -34,13 +32,9 @@ sheetIn framed s = take (sheetLength framed s) (drop (sheetAt framed) s)
 abbrev pub recordOf : List ℕ → ℕ → Call → Front
 recordOf s n c = cond (leb n (length s)) (whole c n) cut
 
--- a sheet from `start` to the record's end
-abbrev pub postBetween : List ℕ → ℕ → ℕ → Front
-postBetween s start end = recordOf s end (postOf (take (end - start) (drop start s)))
-
 -- a sheet
-abbrev pub postFront : Bool → List ℕ → Front
-postFront framed s = recordOf s (sheetAt framed + sheetLength framed s) (postOf (sheetIn framed s))
+abbrev pub postFront : List ℕ → Front
+postFront s = recordOf s (sheetAt + sheetLength s) (postOf (sheetIn s))
 
 -- a month in two bytes
 abbrev pub turnFront : List ℕ → Front
@@ -50,10 +44,10 @@ turnFront s = recordOf s 3 (turnTo (read2 s 1))
 abbrev pub lookFront : List ℕ → Front
 lookFront s = recordOf s 2 (asks (lookAt (getD s 1 0)))
 
-unfoldable pub front : Bool → List ℕ → Front
-front framed s =
+unfoldable pub front : List ℕ → Front
+front s =
     cond (eqb (length s) 0) cut
-    (cond (eqb (getD s 0 0) 0x50) (postFront framed s)
+    (cond (eqb (getD s 0 0) 0x50) (postFront s)
     (cond (eqb (getD s 0 0) 0x4D) (turnFront s)
     (cond (eqb (getD s 0 0) 0x4C) (lookFront s)
     unknown)))
@@ -68,7 +62,7 @@ andThen unknown calls s = []
 -- the first calls, at most so many
 unfoldable pub decodeFrom : ℕ → List ℕ → List Call
 decodeFrom zero s = []
-decodeFrom (suc most) s = andThen (front true s) (decodeFrom most) s
+decodeFrom (suc most) s = andThen (front s) (decodeFrom most) s
 
 -- all of them: each takes at least a byte
 unfoldable pub decode : List ℕ → List Call

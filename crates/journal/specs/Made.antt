@@ -1,5 +1,4 @@
 -- What making the call at the front of some bytes hands back.
-use mathlib.Core.Bool.{Bool}
 use mathlib.Core.List.{List}
 use mathlib.Core.Path.{_≡_}
 use Prim.Native.Nat.{ℕ, _≤_}
@@ -59,5 +58,5 @@ pub record MakesFront (b : Book) (s : List ℕ) (f : Front) (r : Made) : Type 0 
   pub bytes : r .taken ≡ taken f
   pub within : r .taken ≤ length s
 
-abbrev pub Makes : Bool → Book → List ℕ → Made → Type 0
-Makes framed b s r = MakesFront b s (front framed s) r
+abbrev pub Makes : Book → List ℕ → Made → Type 0
+Makes b s r = MakesFront b s (front s) r

@@ -4,9 +4,8 @@ use book::Book;
 use book::Finding;
 use grounds::Verdict;
 ghost use mathlib.Core.Path.{_≡_};
-ghost use Prim.Native.Nat.{_≤_};
 ghost use Rattle.book.specs.Views.{asBook, asFinding, noFinding};
-ghost use Rattle.journal.specs.Journal.{postBetween, postFront, turnFront, lookFront};
+ghost use Rattle.journal.specs.Journal.{postFront, turnFront, lookFront};
 ghost use Rattle.journal.specs.Made.{NoCall, MakesFront, Makes};
 
 // What was called; or why nothing was.
@@ -53,15 +52,19 @@ fn no_call(book: Book, reply: Reply) -> Made
     }
 }
 
-// The sheet stands from `start` to `end`, where the record ends.
-fn post_part(book: Book, rest: &[u8], start: usize, end: usize) -> Made
-    requires { ⌜ start ≤ end ⌝ }
-    ensures { λ r. ⌜ MakesFront (asBook book) (now (rest .entry)) (postBetween (now (rest .entry)) start end) r ⌝ }
+// The sheet's length stands before it.
+fn make_post(book: Book, rest: &[u8]) -> Made
+    ensures { λ r. ⌜ MakesFront (asBook book) (now (rest .entry)) (postFront (now (rest .entry))) r ⌝ }
 {
+    if rest.len() < 3 {
+        return no_call(book, Reply::CutShort);
+    }
+    let length = two_bytes(rest[1], rest[2]) as usize;
+    let end = 3 + length;
     if rest.len() < end {
         return no_call(book, Reply::CutShort);
     }
-    let booked = book::post(book, &rest[start..end]);
+    let booked = book::post(book, &rest[3..end]);
     let verdict = booked.verdict;
     let next = booked.book;
     Made {
@@ -72,20 +75,6 @@ fn post_part(book: Book, rest: &[u8], start: usize, end: usize) -> Made
         taken: end,
         book: next,
     }
-}
-
-// Framed, the sheet's length stands before it.
-fn make_post(book: Book, rest: &[u8], framed: bool) -> Made
-    ensures { λ r. ⌜ MakesFront (asBook book) (now (rest .entry)) (postFront framed (now (rest .entry))) r ⌝ }
-{
-    if !framed {
-        return post_part(book, rest, 1, 110);
-    }
-    if rest.len() < 3 {
-        return no_call(book, Reply::CutShort);
-    }
-    let length = two_bytes(rest[1], rest[2]) as usize;
-    post_part(book, rest, 3, 3 + length)
 }
 
 fn make_turn(book: Book, rest: &[u8]) -> Made
@@ -127,16 +116,16 @@ fn make_look(book: Book, rest: &[u8]) -> Made
     }
 }
 
-// Any bytes. With `framed` a post's sheet has its length before it, as in a journal; else it has 109 bytes.
-pub fn make(book: Book, rest: &[u8], framed: bool) -> Made
-    ensures { λ r. ⌜ Makes framed (asBook book) (now (rest .entry)) r ⌝ }
+// Any bytes.
+pub fn make(book: Book, rest: &[u8]) -> Made
+    ensures { λ r. ⌜ Makes (asBook book) (now (rest .entry)) r ⌝ }
 {
     if rest.len() == 0 {
         return no_call(book, Reply::CutShort);
     }
     let kind = rest[0];
     if kind == 0x50 {
-        return make_post(book, rest, framed);
+        return make_post(book, rest);
     }
     if kind == 0x4D {
         return make_turn(book, rest);

@@ -6,7 +6,6 @@ use book::Looked;
 use grounds::Verdict;
 use journal::Reply;
 ghost use mathlib.Core.Path.{_≡_};
-ghost use mathlib.Core.Bool.{true};
 ghost use Prim.Native.Nat.{_+_, _*_, _≤_};
 ghost use Rattle.ledger.specs.Book.{lookUp, page};
 ghost use Rattle.ledger.specs.Calls.{lookAt, pageInto};
@@ -26,7 +25,7 @@ fn replay(calls: &[u8]) -> Book
     let mut book = book::fresh();
     let mut at: usize = 0;
     while at < calls.len() {
-        let made = journal::make(book, &calls[at..], true);
+        let made = journal::make(book, &calls[at..]);
         book = made.book;
         let taken = made.taken;
         if taken == 0 {
@@ -115,9 +114,9 @@ pub extern "C" fn tuyqorem_page_after(calls: &[u8], out: &mut [u8]) -> u64
 // The answer of one more call, the first record of `call`; 255 where that is no whole record.
 #[no_mangle]
 pub extern "C" fn tuyqorem_answer_after(calls: &[u8], call: &[u8]) -> u64
-    ensures { λ r. ⌜ r ≡ replied (replyTo (bookAfter (now (calls .entry))) (front true (now (call .entry)))) ⌝ }
+    ensures { λ r. ⌜ r ≡ replied (replyTo (bookAfter (now (calls .entry))) (front (now (call .entry)))) ⌝ }
 {
-    let made = journal::make(replay(calls), call, true);
+    let made = journal::make(replay(calls), call);
     let reply = made.reply;
     let verdict = made.verdict;
     match reply {

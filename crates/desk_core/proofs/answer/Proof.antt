@@ -3,7 +3,6 @@ use mathlib.Core.Path.{_∙_}
 use native.Mathlib.Omega.{arith}
 use borrow.Author.Needs.{needs}
 use Rattle.journal.specs.Made.{asReply}
-use Rattle.desk_core.specs.Desk.{framed}
 use Rattle.desk_core.proofs.Lengths.{reply-short}
 use Rattle.desk_core.proofs.Replying.{unknown-by}
 use Rattle.desk_core.proofs.answer.Statement.{statement}
@@ -33,7 +32,7 @@ returns c =
       book = makes .book;
       taken = makes .bytes;
       line = rw (makes .reply) at (at-put .put-reply .ensures);
-      unknown = c .not-known .ensures ∙ unknown-by framed makes;
+      unknown = c .not-known .ensures ∙ unknown-by makes;
     }
 
 pub answer-spec : {M : Type 1} → statement M

@@ -1,5 +1,5 @@
--- From pass to pass the block and the text keep their lengths. A pass that takes nothing leaves less than one record: so there is
--- room for a read.
+-- From pass to pass the block has room for the longest record, the text for a line. A pass that takes nothing leaves less than one
+-- record: so there is room for a read.
 use mathlib.Core.Bool.{false}
 use mathlib.Core.List.{List}
 use mathlib.Core.Path.{_≡_, sym}
@@ -9,6 +9,7 @@ use borrow.Author.Needs.{needs}
 use lib.ListN.{length, take}
 use lib.Seq.{length-take-le}
 use Rattle.book.specs.Views.{asBook}
+use Rattle.desk_core.specs.Desk.{longestRecord, lineRoom}
 use Rattle.desk_core.proofs.Passes.{served-fits}
 use Rattle.desk_core.proofs.Serving.{left-within}
 use Rattle.desk_core.proofs.serve.Statement.{statement}
@@ -16,7 +17,7 @@ use Rattle.desk_core.proofs.serve.Tie as tie
 
 abbrev Inv-loop : tie.InvT-loop
 Inv-loop input output block₀ text₀ desk₀ passes₀ block text desk passes =
-    (length block ≡ 4_096) × ((length text ≡ 4_096) × (desk .held ≤ length block))
+    (longestRecord ≤ length block) × ((lineRoom ≤ length text) × (desk .held ≤ length block))
 
 abbrev μ-loop : tie.MeasureT-loop
 μ-loop input output block₀ text₀ desk₀ passes₀ block text desk passes = passes
@@ -38,10 +39,10 @@ module _ (c : tie.After-pass Inv-loop μ-loop) where
       let loop = at-loop .loop in
       omega (arith, c .pass .ensures .0 .written, served-fits (length (loop .text)) (asBook (loop .desk .book)) bytes)
 
-  left-held : c .pass .result .desk .held ≤ 4_096
+  left-held : c .pass .result .desk .held ≤ length (at-loop .loop .block)
   left-held = omega (arith, left-within (c .pass .ensures .0), length-take-le (at-loop .loop .desk .held) (at-loop .loop .block) (omega arith), at-loop)
 
-  room-to-read : c .pass .result .taken ≡ 0 → c .pass .result .unknown ≡ false → c .pass .result .desk .held < 4_096
+  room-to-read : c .pass .result .taken ≡ 0 → c .pass .result .unknown ≡ false → c .pass .result .desk .held < longestRecord
   room-to-read z x = omega (arith, left-within (c .pass .ensures .0), c .pass .ensures .1 (omega arith) z x)
 
 abbrev pass-of : tie.After-left Inv-loop μ-loop → tie.After-pass Inv-loop μ-loop
@@ -66,7 +67,7 @@ opened-requires : tie.Need-opened-requires Inv-loop μ-loop
 opened-requires c κs = search needs
 
 loop-holds : tie.Need-loop-holds Inv-loop μ-loop
-loop-holds c = search needs
+loop-holds c = (omega arith, (omega arith, omega (arith, c .opened .ensures .held)))
 
 sub-passes : tie.Need-sub-passes Inv-loop μ-loop
 sub-passes c = search needs

@@ -8,7 +8,7 @@ use lib.ListN.{length, drop, length-drop}
 use Rattle.book.specs.Views.{asBook}
 use Rattle.journal.proofs.Decoding.{lent-rest}
 use Rattle.desk_core.specs.declared.Served.{Served}
-use Rattle.desk_core.specs.Desk.{framed, served}
+use Rattle.desk_core.specs.Desk.{served}
 use Rattle.desk_core.specs.Handed.{Answers, Serves, Waits}
 use Rattle.desk_core.proofs.Fronts.{taken-within}
 use Rattle.desk_core.proofs.Serving.{Progress, begins, goes-on, ends-here, ends-full, waits}
@@ -42,7 +42,7 @@ inside c =
     let at-loop = at-test c in
     let held = at-start at-loop .args .held .now in
     let taken = at-loop .loop .taken in
-    omega (arith, at-loop .loop .inv .within, answered c .taken, taken-within framed (drop taken held), length-drop taken held)
+    omega (arith, at-loop .loop .inv .within, answered c .taken, taken-within (drop taken held), length-drop taken held)
 
 -- a pass, and what follows from it: the bytes held are bytes
 both : (c : tie.At-loop Inv-loop μ-loop) {exit : List ℕ} {r : Served} →

@@ -29,7 +29,7 @@ module _ (c : tie.After-make) (x : Reply) (told : c .make .result .reply ≡ x) 
   book = run (decode (now (start .args .calls)))
 
   abbrev record-read : Front
-  record-read = front true (now (start .args .call))
+  record-read = front (now (start .args .call))
 
   abbrev made : Made
   made = c .make .result
