@@ -8,7 +8,7 @@
 /* The grounds of docs/SPECIFICATION.md, section 9; a record can meet 1 to 14. */
 static const char *const reasons[] = {
     "",
-    "the sheet's length is not 109",
+    "the sheet's length is neither 109 nor 112",
     "a record's kind or maturity is not the one due",
     "a number is outside its range",
     "no volume is above 0",

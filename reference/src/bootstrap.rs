@@ -3,7 +3,7 @@
 use crate::enclosure::{div_down, div_up, Enclosure, RATE_UNIT, U};
 use crate::refusal::Refusal;
 use crate::series::neg_log;
-use crate::sheet::{Sheet, MATURITIES};
+use crate::sheet::{Sheet, MATURITIES, QUOTE_20};
 
 /// Value of a swap's fixed leg at par.
 const PAR: i128 = RATE_UNIT * U;
@@ -15,8 +15,8 @@ const HIGHEST_YEARLY_FACTOR: i128 = 1_100_000_000;
 /// The largest allowed high of a discount factor.
 pub const LARGEST_HIGH: i128 = 2 * U;
 
-/// Index of maturity 20 in `MATURITIES`: its gap is the first whose forward is kept.
-const FIRST_KEPT_GAP: usize = 12;
+/// The gap that ends at maturity 20 is the first whose forward is kept.
+pub const FIRST_KEPT_GAP: usize = QUOTE_20;
 
 /// The result of the bootstrap.
 pub struct Bootstrap {
@@ -99,10 +99,7 @@ impl Years {
         let yearly = gap.yearly_factor().ok_or(Refusal::at(9, end))?;
         let mut factor = start;
         for _ in 1..gap_years {
-            factor = Enclosure::new(
-                div_down(factor.low * yearly.low, U),
-                div_up(factor.high * yearly.high, U),
-            );
+            factor = factor.product(yearly);
             self.push(factor)?;
         }
         Ok(yearly)
@@ -172,7 +169,7 @@ impl Gap {
         let mut last = self.start;
         let mut sum = Enclosure::ZERO;
         for _ in 0..self.years {
-            last = Enclosure::new(div_down(last.low * x, U), div_up(last.high * x, U));
+            last = last.product(Enclosure::new(x, x));
             sum = sum.plus(last);
         }
         Trial { sum, last }

@@ -1,23 +1,13 @@
-//! The record stream of the desk program and its answers.
+//! Records read as calls, in the desk's stream and in journals alike, and the desk's lines.
 
 use std::io::{self, ErrorKind, Read, Write};
 
 use crate::book::Book;
 use crate::refusal::Refusal;
-use crate::sheet::SHEET_LENGTH;
 
 pub const POST: u8 = 0x50;
 pub const TURN: u8 = 0x4D;
 pub const LOOK_UP: u8 = 0x4C;
-
-/// How the stream tells the length of a posted sheet.
-#[derive(Clone, Copy, Debug, PartialEq, Eq)]
-pub enum SheetFraming {
-    /// Always 109 bytes.
-    Fixed,
-    /// Two length bytes before the sheet.
-    LengthPrefixed,
-}
 
 /// One call read from the stream.
 #[derive(Clone, Debug, PartialEq, Eq)]
@@ -41,17 +31,12 @@ pub enum Next {
 pub struct CallReader<R> {
     input: R,
     offset: u64,
-    framing: SheetFraming,
 }
 
 impl<R: Read> CallReader<R> {
     /// A reader at offset 0 of `input`.
-    pub fn new(input: R, framing: SheetFraming) -> Self {
-        CallReader {
-            input,
-            offset: 0,
-            framing,
-        }
+    pub fn new(input: R) -> Self {
+        CallReader { input, offset: 0 }
     }
 
     /// The next call, the end, or where the stream is broken.
@@ -62,24 +47,24 @@ impl<R: Read> CallReader<R> {
         };
         let call = match kind[0] {
             POST => self.post()?,
-            TURN => self
-                .take(2)?
-                .map(|b| Call::Turn(u16::from_be_bytes([b[0], b[1]]))),
+            TURN => self.two_bytes()?.map(Call::Turn),
             LOOK_UP => self.take(1)?.map(|b| Call::LookUp(b[0])),
             _ => None,
         };
         Ok(call.map_or(Next::Broken(start), Next::Call))
     }
 
+    /// A sheet of the length that stands before it; whether it is right is for the book to say.
     fn post(&mut self) -> io::Result<Option<Call>> {
-        let length = match self.framing {
-            SheetFraming::Fixed => SHEET_LENGTH,
-            SheetFraming::LengthPrefixed => match self.take(2)? {
-                Some(b) => usize::from(u16::from_be_bytes([b[0], b[1]])),
-                None => return Ok(None),
-            },
+        let Some(length) = self.two_bytes()? else {
+            return Ok(None);
         };
-        Ok(self.take(length)?.map(Call::Post))
+        Ok(self.take(usize::from(length))?.map(Call::Post))
+    }
+
+    fn two_bytes(&mut self) -> io::Result<Option<u16>> {
+        let bytes = self.take(2)?;
+        Ok(bytes.map(|bytes| u16::from_be_bytes([bytes[0], bytes[1]])))
     }
 
     /// The next `length` bytes, or none if the input stops before.
@@ -124,7 +109,7 @@ fn look_up_line(book: &Book, year: u8) -> Result<String, Refusal> {
 /// Answers every call of `input` on a fresh book, one line each.
 pub fn run_desk(input: impl Read, mut output: impl Write) -> io::Result<()> {
     let mut book = Book::new();
-    let mut calls = CallReader::new(input, SheetFraming::Fixed);
+    let mut calls = CallReader::new(input);
     loop {
         match calls.next_call()? {
             Next::Call(call) => writeln!(output, "{}", answer(&mut book, &call))?,

@@ -48,6 +48,15 @@ impl Enclosure {
         Enclosure::new(self.low * factor, self.high * factor)
     }
 
+    /// The product of two pairs of billionths from 0 up, lows down and highs up.
+    pub fn product(self, other: Self) -> Self {
+        assert!(self.low >= 0 && other.low >= 0);
+        Enclosure::new(
+            div_down(self.low * other.low, U),
+            div_up(self.high * other.high, U),
+        )
+    }
+
     /// The negated pair: its low is minus the high.
     pub fn negated(self) -> Self {
         Enclosure::new(-self.high, -self.low)

@@ -9,12 +9,19 @@ use crate::streams::sheet_bytes;
 /// it is accepted.
 pub fn records() -> Vec<(Vec<u8>, u8, u8)> {
     let posted = |sheet: Sheet| post(&sheet_bytes(&sheet));
+    let followed_by = |bytes: &[u8]| post(&[&sheet_bytes(&zero()), bytes].concat());
     vec![
         (look_up(150), 14, 0),
         (post(&[]), 1, 0),
-        (post(&[sheet_bytes(&zero()), vec![0]].concat()), 1, 0),
+        (followed_by(&[0x06]), 1, 0),
+        (followed_by(&[0x06, 0x4E]), 1, 0),
+        (followed_by(&[0x06, 0x4E, 0x20, 0]), 1, 0),
         (post(&[0; 109]), 2, 1),
+        (post(&[0; 112]), 2, 1),
+        (followed_by(&[0x07, 0x4E, 0x20]), 2, 26),
         (posted(with_rate(zero(), 12, 12_001)), 3, 12),
+        (posted(with_x(9_999)), 3, 26),
+        (posted(with_x(20_001)), 3, 26),
         (posted(untraded()), 4, 0),
         (posted(of_month(1)), 5, 0),
         (posted(fall()), 7, 10),
@@ -23,10 +30,12 @@ pub fn records() -> Vec<(Vec<u8>, u8, u8)> {
         (posted(limited(2_208)), 10, 150),
         (look_up(150), 14, 0),
         (turn(2_400), 11, 0),
+        (posted(with_x(20_000)), 0, 0),
         (turn(2), 0, 0),
         (turn(1), 12, 0),
         (posted(of_month(1)), 0, 0),
         (posted(limited(2_209)), 6, 0),
+        (posted(with_x(20_000)), 6, 0),
         (look_up(0), 13, 0),
         (look_up(151), 13, 0),
         (look_up(150), 0, 0),
@@ -41,6 +50,7 @@ fn zero() -> Sheet {
         volumes: [1; 5],
         ufr: 0,
         limit: 100_000,
+        phase_in: None,
     }
 }
 
@@ -50,6 +60,13 @@ fn of_month(month: u16) -> Sheet {
 
 fn limited(limit: u32) -> Sheet {
     Sheet { limit, ..zero() }
+}
+
+fn with_x(x: u16) -> Sheet {
+    Sheet {
+        phase_in: Some(x),
+        ..zero()
+    }
 }
 
 fn untraded() -> Sheet {

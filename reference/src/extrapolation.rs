@@ -5,7 +5,7 @@ use crate::enclosure::{div_down, div_up, Enclosure, Round, U};
 use crate::refusal::Refusal;
 use crate::series::{growth, neg_log};
 use crate::sheet::Sheet;
-use crate::weights;
+use crate::weights::weights;
 
 /// The last year whose factor comes from the quotes.
 pub const FIRST_SMOOTHING_POINT: usize = 20;
@@ -23,7 +23,7 @@ pub fn extrapolate(
     let last_liquid = last_liquid_forward(&sheet.volumes, forwards);
     let mut factor = factor_20;
     let mut factors = Vec::new();
-    for (i, &weight) in weights::table().iter().enumerate() {
+    for (i, weight) in weights(sheet.convergence()).into_iter().enumerate() {
         factor = next_factor(factor, year_forward(ultimate, last_liquid, weight));
         if factor.high > LARGEST_HIGH {
             return Err(Refusal::at(8, FIRST_SMOOTHING_POINT + 1 + i));
@@ -64,16 +64,16 @@ pub fn last_liquid_forward(volumes: &[u32; 5], forwards: [Enclosure; 5]) -> Encl
     Enclosure::new(div_down(sum.low, divisor), div_up(sum.high, divisor))
 }
 
-/// The forward of one year; the exact weight lies from `weight` to `weight + 1`.
-fn year_forward(ultimate: Enclosure, last_liquid: Enclosure, weight: i128) -> Enclosure {
+/// The forward of one year, at the end of the weight that makes it lower or higher.
+fn year_forward(ultimate: Enclosure, last_liquid: Enclosure, weight: Enclosure) -> Enclosure {
     let blend = |limit: i128, start: i128, weight: i128, round: Round| {
         round(limit * (U - weight) + start * weight, U)
     };
     let low = |weight| blend(ultimate.low, last_liquid.low, weight, div_down);
     let high = |weight| blend(ultimate.high, last_liquid.high, weight, div_up);
     Enclosure::new(
-        low(weight).min(low(weight + 1)),
-        high(weight).max(high(weight + 1)),
+        low(weight.low).min(low(weight.high)),
+        high(weight.low).max(high(weight.high)),
     )
 }
 

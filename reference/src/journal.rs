@@ -1,7 +1,7 @@
 //! Journals: the calls of a list as bytes, made on a fresh book.
 
 use crate::book::Book;
-use crate::desk::{make, Call, CallReader, Next, SheetFraming, LOOK_UP, POST, TURN};
+use crate::desk::{make, Call, CallReader, Next, LOOK_UP, POST, TURN};
 use crate::refusal::Refusal;
 
 /// What `answer_after` gives where there is no whole record to be answered.
@@ -25,7 +25,7 @@ pub fn look_up(year: u8) -> Vec<u8> {
 
 /// The calls of a journal, read until an unknown kind or a cut body.
 pub fn calls(journal: &[u8]) -> impl Iterator<Item = Call> + '_ {
-    let mut reader = CallReader::new(journal, SheetFraming::LengthPrefixed);
+    let mut reader = CallReader::new(journal);
     std::iter::from_fn(move || match reader.next_call() {
         Ok(Next::Call(call)) => Some(call),
         _ => None,

@@ -5,6 +5,7 @@
 pub mod bigint;
 pub mod book;
 pub mod bootstrap;
+pub mod convergence;
 pub mod curve;
 pub mod desk;
 pub mod enclosure;

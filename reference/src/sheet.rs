@@ -1,29 +1,17 @@
-//! The 109-byte sheet: reading its records and grounds 1 to 4.
+//! A sheet: its records in their turn, and grounds 1 to 4.
+
+use std::ops::RangeInclusive;
 
 use crate::refusal::Refusal;
-
-/// Bytes in a sheet.
-pub const SHEET_LENGTH: usize = 109;
-
-/// Records in a sheet.
-const RECORD_COUNT: usize = 25;
 
 /// The quoted maturities in their order on the sheet.
 pub const MATURITIES: [u8; 17] = [1, 2, 3, 4, 5, 6, 7, 8, 9, 10, 12, 15, 20, 25, 30, 40, 50];
 
+/// The index of maturity 20 in `MATURITIES`.
+pub const QUOTE_20: usize = 12;
+
 /// The maturities whose traded volume is given, in their order on the sheet.
 pub const VOLUME_MATURITIES: [u8; 5] = [20, 25, 30, 40, 50];
-
-const MONTH_KIND: u8 = 0x01;
-const RATE_KIND: u8 = 0x02;
-const VOLUME_KIND: u8 = 0x03;
-const UFR_KIND: u8 = 0x04;
-const LIMIT_KIND: u8 = 0x05;
-
-const FIRST_RATE: usize = 1;
-const FIRST_VOLUME: usize = FIRST_RATE + MATURITIES.len();
-const UFR_RECORD: usize = FIRST_VOLUME + VOLUME_MATURITIES.len();
-const LIMIT_RECORD: usize = UFR_RECORD + 1;
 
 /// The last month a sheet or a turn may name.
 pub const LAST_MONTH: u32 = 2_399;
@@ -41,17 +29,18 @@ pub struct Sheet {
     pub ufr: u16,
     /// Largest allowed high less low, in billionths.
     pub limit: u32,
+    /// X of the phase-in in hundred-thousandths, on a sheet that has its record.
+    pub phase_in: Option<u16>,
 }
 
 impl Sheet {
     /// The sheet held by `bytes`, or the first of grounds 1 to 4 that applies.
     pub fn read(bytes: &[u8]) -> Result<Sheet, Refusal> {
-        if bytes.len() != SHEET_LENGTH {
-            return Err(Refusal::plain(1));
-        }
-        check_kinds(bytes)?;
-        check_ranges(bytes)?;
-        let sheet = decode(bytes);
+        let dues = dues(bytes.len()).ok_or(Refusal::plain(1))?;
+        let records = split(bytes, dues);
+        check(2, &records, Record::is_due)?;
+        check(3, &records, Record::in_range)?;
+        let sheet = decode(&records);
         if sheet.volumes.iter().all(|&volume| volume == 0) {
             return Err(Refusal::plain(4));
         }
@@ -59,97 +48,165 @@ impl Sheet {
     }
 }
 
-/// What a record must be: its kind and, where it has one, its maturity.
-fn expected(record: usize) -> (u8, Option<u8>) {
-    match record {
-        0 => (MONTH_KIND, None),
-        r if r < FIRST_VOLUME => (RATE_KIND, Some(MATURITIES[r - FIRST_RATE])),
-        r if r < UFR_RECORD => (VOLUME_KIND, Some(VOLUME_MATURITIES[r - FIRST_VOLUME])),
-        UFR_RECORD => (UFR_KIND, None),
-        _ => (LIMIT_KIND, None),
-    }
+/// What a record tells, with its kind byte.
+#[derive(Clone, Copy, PartialEq, Eq)]
+enum Kind {
+    Month = 0x01,
+    Rate = 0x02,
+    Volume = 0x03,
+    Ufr = 0x04,
+    Limit = 0x05,
+    PhaseIn = 0x06,
 }
 
-/// Bytes in the body of a record of `kind`.
-fn body_length(kind: u8) -> usize {
-    match kind {
-        RATE_KIND => 3,
-        VOLUME_KIND => 5,
-        LIMIT_KIND => 4,
-        _ => 2,
-    }
-}
-
-/// The offset of a record's kind byte when all records before it have their due kind.
-fn offset(record: usize) -> usize {
-    (0..record).map(|r| 1 + body_length(expected(r).0)).sum()
-}
-
-/// The kind byte of a record counted from 0.
-fn kind(bytes: &[u8], record: usize) -> u8 {
-    bytes[offset(record)]
-}
-
-/// The body of a record counted from 0, as a part of the sheet.
-fn body(bytes: &[u8], record: usize) -> &[u8] {
-    let start = offset(record) + 1;
-    &bytes[start..start + body_length(expected(record).0)]
-}
-
-/// Ground 2. Offsets are sound up to the first wrong kind, where the check stops.
-fn check_kinds(bytes: &[u8]) -> Result<(), Refusal> {
-    for record in 0..RECORD_COUNT {
-        let (due_kind, due_maturity) = expected(record);
-        let kind_differs = kind(bytes, record) != due_kind;
-        let maturity_differs = due_maturity.is_some_and(|due| body(bytes, record)[0] != due);
-        if kind_differs || maturity_differs {
-            return Err(Refusal::at(2, record + 1));
+impl Kind {
+    /// Bytes of the number that ends the record.
+    fn number_length(self) -> usize {
+        match self {
+            Kind::Volume | Kind::Limit => 4,
+            _ => 2,
         }
     }
-    Ok(())
-}
 
-/// Ground 3.
-fn check_ranges(bytes: &[u8]) -> Result<(), Refusal> {
-    for record in 0..RECORD_COUNT {
-        if !in_range(bytes, record) {
-            return Err(Refusal::at(3, record + 1));
+    /// The numbers that ground 3 lets pass.
+    fn range(self) -> RangeInclusive<i64> {
+        match self {
+            Kind::Month => 0..=i64::from(LAST_MONTH),
+            Kind::Rate => -2_000..=12_000,
+            Kind::Volume => 0..=1_000_000,
+            Kind::Ufr => 0..=10_000,
+            Kind::Limit => 1..=100_000,
+            Kind::PhaseIn => 10_000..=20_000,
         }
     }
-    Ok(())
 }
 
-/// Whether a record's number lies in the range of its kind.
-fn in_range(bytes: &[u8], record: usize) -> bool {
-    let body = body(bytes, record);
-    match kind(bytes, record) {
-        MONTH_KIND => u32::from(unsigned_16(body)) <= LAST_MONTH,
-        RATE_KIND => (-2_000..=12_000).contains(&signed_16(&body[1..])),
-        VOLUME_KIND => unsigned_32(&body[1..]) <= 1_000_000,
-        UFR_KIND => unsigned_16(body) <= 10_000,
-        _ => (1..=100_000).contains(&unsigned_32(body)),
+/// What is due in a record's turn: its kind and, where it has one, its maturity.
+#[derive(Clone, Copy)]
+struct Due {
+    kind: Kind,
+    maturity: Option<u8>,
+}
+
+impl Due {
+    fn plain(kind: Kind) -> Self {
+        let maturity = None;
+        Due { kind, maturity }
+    }
+
+    fn of_each(kind: Kind, maturities: &[u8]) -> impl Iterator<Item = Due> + '_ {
+        let due = move |&maturity| Due {
+            kind,
+            maturity: Some(maturity),
+        };
+        maturities.iter().map(due)
+    }
+
+    /// Bytes of the whole record.
+    fn length(self) -> usize {
+        1 + usize::from(self.maturity.is_some()) + self.kind.number_length()
     }
 }
 
-/// The numbers of a sheet that passed grounds 1 to 3.
-fn decode(bytes: &[u8]) -> Sheet {
+/// The dues of a sheet of `length` bytes, or none if no sheet is that long.
+fn dues(length: usize) -> Option<Vec<Due>> {
+    let required = required();
+    let with_phase_in = [&required[..], &[Due::plain(Kind::PhaseIn)]].concat();
+    [required, with_phase_in]
+        .into_iter()
+        .find(|dues| dues.iter().map(|due| due.length()).sum::<usize>() == length)
+}
+
+/// The dues that every sheet has.
+fn required() -> Vec<Due> {
+    [Due::plain(Kind::Month)]
+        .into_iter()
+        .chain(Due::of_each(Kind::Rate, &MATURITIES))
+        .chain(Due::of_each(Kind::Volume, &VOLUME_MATURITIES))
+        .chain([Due::plain(Kind::Ufr), Due::plain(Kind::Limit)])
+        .collect()
+}
+
+/// A part of the sheet and what is due there.
+struct Record<'a> {
+    due: Due,
+    bytes: &'a [u8],
+}
+
+/// The sheet's records. Their bounds follow from the dues alone, whatever the bytes.
+fn split(mut bytes: &[u8], dues: Vec<Due>) -> Vec<Record<'_>> {
+    let mut records = Vec::new();
+    for due in dues {
+        let (record, rest) = bytes.split_at(due.length());
+        records.push(Record { due, bytes: record });
+        bytes = rest;
+    }
+    records
+}
+
+impl Record<'_> {
+    /// Whether kind and maturity are those due.
+    fn is_due(&self) -> bool {
+        let maturity_is_due = self.due.maturity.is_none_or(|due| self.bytes[1] == due);
+        self.bytes[0] == self.due.kind as u8 && maturity_is_due
+    }
+
+    /// The number that ends the record; rates are in two's complement.
+    fn number(&self) -> i64 {
+        let bytes = &self.bytes[self.bytes.len() - self.due.kind.number_length()..];
+        match (self.due.kind, bytes) {
+            (Kind::Rate, &[high, low]) => i64::from(i16::from_be_bytes([high, low])),
+            _ => bytes
+                .iter()
+                .fold(0, |sum, &byte| 256 * sum + i64::from(byte)),
+        }
+    }
+
+    fn in_range(&self) -> bool {
+        self.due.kind.range().contains(&self.number())
+    }
+}
+
+/// The refusal on `ground` at the first record that does not pass.
+fn check<'a>(
+    ground: u8,
+    records: &[Record<'a>],
+    passes: fn(&Record<'a>) -> bool,
+) -> Result<(), Refusal> {
+    match records.iter().position(|record| !passes(record)) {
+        Some(index) => Err(Refusal::at(ground, index + 1)),
+        None => Ok(()),
+    }
+}
+
+/// The numbers of records that passed grounds 2 and 3.
+fn decode(records: &[Record]) -> Sheet {
     Sheet {
-        month: unsigned_16(body(bytes, 0)),
-        rates: std::array::from_fn(|i| signed_16(&body(bytes, FIRST_RATE + i)[1..])),
-        volumes: std::array::from_fn(|i| unsigned_32(&body(bytes, FIRST_VOLUME + i)[1..])),
-        ufr: unsigned_16(body(bytes, UFR_RECORD)),
-        limit: unsigned_32(body(bytes, LIMIT_RECORD)),
+        month: single(records, Kind::Month),
+        rates: all(records, Kind::Rate),
+        volumes: all(records, Kind::Volume),
+        ufr: single(records, Kind::Ufr),
+        limit: single(records, Kind::Limit),
+        phase_in: numbers(records, Kind::PhaseIn).next(),
     }
 }
 
-fn unsigned_16(bytes: &[u8]) -> u16 {
-    u16::from_be_bytes([bytes[0], bytes[1]])
+/// The numbers of the records of `kind`, in order.
+fn numbers<'a, T: TryFrom<i64>>(records: &'a [Record], kind: Kind) -> impl Iterator<Item = T> + 'a {
+    let of_kind = records.iter().filter(move |record| record.due.kind == kind);
+    of_kind.map(|record| {
+        T::try_from(record.number())
+            .ok()
+            .expect("a number in range")
+    })
 }
 
-fn signed_16(bytes: &[u8]) -> i16 {
-    i16::from_be_bytes([bytes[0], bytes[1]])
+fn all<T: TryFrom<i64>, const COUNT: usize>(records: &[Record], kind: Kind) -> [T; COUNT] {
+    let mut numbers = numbers(records, kind);
+    std::array::from_fn(|_| numbers.next().expect("as many records as are due"))
 }
 
-fn unsigned_32(bytes: &[u8]) -> u32 {
-    u32::from_be_bytes([bytes[0], bytes[1], bytes[2], bytes[3]])
+fn single<T: TryFrom<i64>>(records: &[Record], kind: Kind) -> T {
+    let [number] = all(records, kind);
+    number
 }

@@ -1,10 +1,15 @@
 //! Seeded sheets and record streams: ordinary, extreme and damaged ones, for
 //! comparing two desks on the same input.
 
+use crate::convergence::{TEN_PERCENT, X_OUTSIDE_PHASE_IN};
 use crate::curve::{Curve, YEARS};
+use crate::journal::{look_up, post, turn};
 use crate::sheet::{Sheet, MATURITIES, VOLUME_MATURITIES};
 
 const LARGEST_LIMIT: u32 = 100_000;
+
+/// Bytes of a sheet without the phase-in's record.
+const REQUIRED_LENGTH: usize = 109;
 
 /// Repeatable random numbers (splitmix64): the same seed gives the same stream on
 /// every machine.
@@ -38,7 +43,7 @@ impl Random {
     }
 }
 
-/// A sheet's 109 bytes.
+/// A sheet's bytes.
 pub fn sheet_bytes(sheet: &Sheet) -> Vec<u8> {
     let mut bytes = vec![0x01];
     bytes.extend(sheet.month.to_be_bytes());
@@ -54,6 +59,10 @@ pub fn sheet_bytes(sheet: &Sheet) -> Vec<u8> {
     bytes.extend(sheet.ufr.to_be_bytes());
     bytes.push(0x05);
     bytes.extend(sheet.limit.to_be_bytes());
+    if let Some(x) = sheet.phase_in {
+        bytes.push(0x06);
+        bytes.extend(x.to_be_bytes());
+    }
     bytes
 }
 
@@ -122,7 +131,11 @@ pub fn sheet(random: &mut Random, month: u16) -> Sheet {
             _ => random.between(0, 6_000) as u16,
         },
         limit: LARGEST_LIMIT,
+        phase_in: None,
     };
+    if random.one_in(2) {
+        phase_in(random, &mut sheet);
+    }
     match random.below(8) {
         0 => sheet.limit = random.between(1, 3_000) as u32,
         1 => sheet.limit = widest(&sheet),
@@ -130,6 +143,26 @@ pub fn sheet(random: &mut Random, month: u16) -> Sheet {
         _ => {}
     }
     sheet
+}
+
+/// Gives the sheet an X and, most often, a 20-year rate on which its convergence factor
+/// depends or that lies at an end of these rates; the other rates move with it.
+fn phase_in(random: &mut Random, sheet: &mut Sheet) {
+    sheet.phase_in = Some(match random.below(8) {
+        0 => X_OUTSIDE_PHASE_IN,
+        1 => X_OUTSIDE_PHASE_IN + 1,
+        2 | 3 => 20_000,
+        _ => random.between(10_000, 20_000) as u16,
+    });
+    let rate_20 = match random.below(8) {
+        0 => return,
+        1 => [-501, -500, -499, 499, 500, 501][random.below(6) as usize],
+        _ => random.between(-600, 600),
+    };
+    let shift = rate_20 - i64::from(sheet.rate_20());
+    for rate in &mut sheet.rates {
+        *rate = (i64::from(*rate) + shift).clamp(-2_000, 12_000) as i16;
+    }
 }
 
 /// The widest band of the sheet's curve, so that a limit can stand at it or just below.
@@ -150,23 +183,85 @@ pub fn worked(sheet: &Sheet) -> Option<Curve> {
     traded.then(|| Curve::of(sheet).ok()).flatten()
 }
 
-/// One record of a desk's stream.
-fn record(random: &mut Random, told: &mut u16, stream: &mut Vec<u8>) {
-    match random.below(10) {
-        0 | 1 => turn(random, told, stream),
-        2..=5 => {
-            let year = if random.one_in(15) {
-                random.below(256)
-            } else {
-                1 + random.below(150)
-            };
-            stream.extend([0x4C, year as u8]);
-        }
-        _ => post(random, *told, stream),
+/// A sheet in the shape of the end of November 2020: its 20-year rate is near 0, so that its
+/// convergence factor follows X.
+pub fn low_rates(month: u16, phase_in: Option<u16>) -> Sheet {
+    Sheet {
+        month,
+        rates: [
+            -52, -53, -51, -48, -44, -39, -33, -27, -21, -15, -4, 5, 14, 12, 8, -2, -9,
+        ],
+        volumes: [14, 5, 40, 6, 8],
+        ufr: 360,
+        limit: LARGEST_LIMIT,
+        phase_in,
     }
 }
 
-fn turn(random: &mut Random, told: &mut u16, stream: &mut Vec<u8>) {
+/// What a post brings: most often a sheet, else one with any byte in one place, with a wrong
+/// last record, or of another length.
+pub fn typed_sheet(random: &mut Random, month: u16) -> Vec<u8> {
+    let mut bytes = sheet_bytes(&sheet(random, month));
+    match random.below(24) {
+        0..=3 => {
+            let at = random.below(bytes.len() as u64) as usize;
+            bytes[at] = random.below(256) as u8;
+        }
+        4 => {
+            bytes.truncate(REQUIRED_LENGTH);
+            bytes.extend(wrong_phase_in(random));
+        }
+        5 => {
+            let length = other_length(random);
+            bytes.resize_with(length, || random.below(256) as u8);
+        }
+        _ => {}
+    }
+    bytes
+}
+
+/// Three bytes for the phase-in's record whose kind is mostly another, or whose X is mostly
+/// outside its range.
+fn wrong_phase_in(random: &mut Random) -> [u8; 3] {
+    let (kind, x) = match random.below(4) {
+        0 => (random.below(256), random.between(10_000, 20_000)),
+        1 => ([0, 5, 7, 8][random.below(4) as usize], 20_000),
+        2 => (6, [0, 9_999, 20_001, 65_535][random.below(4) as usize]),
+        _ => (6, random.between(0, 65_535)),
+    };
+    let [high, low] = (x as u16).to_be_bytes();
+    [kind as u8, high, low]
+}
+
+/// A length that mostly no sheet has: around 109 and 112, or these in the low byte alone.
+fn other_length(random: &mut Random) -> usize {
+    const NEAR: [u64; 12] = [0, 1, 2, 108, 110, 111, 113, 114, 115, 116, 365, 368];
+    let length = match random.below(20) {
+        0 => random.below(65_536),
+        1..=4 => random.below(300),
+        _ => NEAR[random.below(12) as usize],
+    };
+    length as usize
+}
+
+/// One record of a desk's stream.
+fn record(random: &mut Random, told: &mut u16) -> Vec<u8> {
+    match random.below(10) {
+        0 | 1 => turn(told_month(random, told)),
+        2..=5 => look_up(if random.one_in(15) {
+            random.below(256) as u8
+        } else {
+            1 + random.below(150) as u8
+        }),
+        _ => {
+            let month = sheet_month(random, *told);
+            post(&typed_sheet(random, month))
+        }
+    }
+}
+
+/// The month of a turn, which becomes the told one where it is accepted.
+fn told_month(random: &mut Random, told: &mut u16) -> u16 {
     let month = match random.below(8) {
         0 => random.below(65_536) as u16,
         1 => told.saturating_sub(1),
@@ -175,23 +270,15 @@ fn turn(random: &mut Random, told: &mut u16, stream: &mut Vec<u8>) {
     if (*told..=2_399).contains(&month) {
         *told = month;
     }
-    stream.push(0x4D);
-    stream.extend(month.to_be_bytes());
+    month
 }
 
-fn post(random: &mut Random, told: u16, stream: &mut Vec<u8>) {
-    let month = match random.below(10) {
+fn sheet_month(random: &mut Random, told: u16) -> u16 {
+    match random.below(10) {
         0 => told.saturating_add(1),
         1 => told.saturating_sub(2),
         _ => told,
-    };
-    let mut bytes = sheet_bytes(&sheet(random, month));
-    if random.one_in(6) {
-        let at = random.below(bytes.len() as u64) as usize;
-        bytes[at] = random.below(256) as u8;
     }
-    stream.push(0x50);
-    stream.extend(bytes);
 }
 
 /// A stream of `count` whole records.
@@ -199,19 +286,47 @@ pub fn records(random: &mut Random, count: usize) -> Vec<u8> {
     let mut told = 0;
     let mut stream = Vec::new();
     for _ in 0..count {
-        record(random, &mut told, &mut stream);
+        stream.extend(record(random, &mut told));
     }
     stream
 }
 
-/// A stream of `count` records; sometimes cut, or ended by an unknown kind.
+/// A stream of `count` records; sometimes cut, with any byte in one place (a wrong length
+/// shifts all that follows), or ended by any kind.
 pub fn stream(seed: u64, count: usize) -> Vec<u8> {
     let mut random = Random::new(seed);
     let mut stream = records(&mut random, count);
-    match random.below(6) {
-        0 => stream.truncate(random.below(stream.len() as u64 + 1) as usize),
-        1 => stream.push(random.below(256) as u8),
+    let at = random.below(stream.len() as u64 + 1) as usize;
+    match random.below(8) {
+        0 => stream.truncate(at),
+        1 if at < stream.len() => stream[at] = random.below(256) as u8,
+        2 => stream.push(random.below(256) as u8),
         _ => {}
+    }
+    stream
+}
+
+/// `count` accepted posts of one month, each followed by a look-up, for measuring. The posts
+/// are of the same sheets in either case; with the phase-in each has its X, and a factor that
+/// is not that of the table.
+pub fn accepted_posts(seed: u64, count: usize, with_phase_in: bool) -> Vec<u8> {
+    let mut random = Random::new(seed);
+    let mut stream = turn(1);
+    let mut done = 0;
+    while done < count {
+        let mut with = sheet(&mut random, 1);
+        with.limit = LARGEST_LIMIT;
+        let without = Sheet {
+            phase_in: None,
+            ..with.clone()
+        };
+        let all_accepted = worked(&with).is_some() && worked(&without).is_some();
+        if with.convergence() != TEN_PERCENT && all_accepted {
+            let posted = if with_phase_in { &with } else { &without };
+            stream.extend(post(&sheet_bytes(posted)));
+            stream.extend(look_up(1 + random.below(150) as u8));
+            done += 1;
+        }
     }
     stream
 }

@@ -9,6 +9,8 @@
 //! a low or a high is undecided.
 
 use crate::bigint::BigInt;
+use crate::bootstrap::FIRST_KEPT_GAP;
+use crate::convergence::RATE_BOUND;
 use crate::curve::{Curve, YEARS};
 use crate::enclosure::{Enclosure, RATE_UNIT, U};
 use crate::extrapolation::{FIRST_SMOOTHING_POINT, TWELVEFOLD_MEANS, UFR_UNIT};
@@ -31,14 +33,26 @@ const PRECISIONS: [usize; 5] = [1_024, 2_048, 4_096, 8_192, 16_384];
 /// Parts of a billionth in which slack is told.
 pub const SLACK_UNIT: i128 = 1_000_000;
 
-/// Index in `MATURITIES` of the first gap whose yearly factor is kept.
-const FIRST_KEPT_GAP: usize = 12;
-
 /// A fraction with a denominator above 0.
 #[derive(Clone, Debug)]
-struct Fraction {
-    numerator: BigInt,
-    denominator: BigInt,
+pub struct Fraction {
+    pub numerator: BigInt,
+    pub denominator: BigInt,
+}
+
+impl Fraction {
+    /// `numerator / denominator`, for a denominator above 0.
+    pub fn new(numerator: i128, denominator: i128) -> Self {
+        Fraction {
+            numerator: BigInt::from(numerator),
+            denominator: BigInt::from(denominator),
+        }
+    }
+
+    /// The interval of `bits` that holds the fraction.
+    fn interval(&self, bits: usize) -> Interval {
+        Interval::ratio(&self.numerator, &self.denominator, bits)
+    }
 }
 
 /// How one year's enclosure stands to the true factor.
@@ -273,10 +287,9 @@ fn true_extrapolation(
 ) -> Vec<Interval> {
     let ultimate = true_log_ultimate(sheet.ufr, order, bits);
     let last_liquid = true_last_liquid_forward(sheet, quotes, order, bits);
-    let start = &quotes.factors[FIRST_SMOOTHING_POINT - 1];
-    let mut factor = Interval::ratio(&start.numerator, &start.denominator, bits);
+    let mut factor = quotes.factors[FIRST_SMOOTHING_POINT - 1].interval(bits);
     let mut factors = Vec::new();
-    for weight in true_weights(HORIZON, order, bits) {
+    for weight in true_weights(&true_convergence(sheet), order, bits) {
         let rest = Interval::integer(1, bits).sub(&weight);
         let forward = ultimate.mul(&rest).add(&last_liquid.mul(&weight));
         factor = factor.mul(&exp_of_minus(&forward, order));
@@ -335,13 +348,35 @@ fn true_last_liquid_forward(
     )
 }
 
-/// k(1) to k(count) of order n, as parts of one.
-pub fn true_weights(count: usize, order: usize, bits: usize) -> Vec<Interval> {
-    let tenth = Interval::ratio(&BigInt::one(), &BigInt::from(10), bits);
-    let q = exp_sum(&tenth, order).reciprocal();
-    let mut weight = Interval::integer(1, bits).sub(&q).times(10);
+/// The convergence factor as a part of one, in the words of source document 003: ten percent
+/// at a 20-year rate of 0.5% or higher, X at -0.5% or lower, linear between them.
+pub fn true_convergence(sheet: &Sheet) -> Fraction {
+    let (rate, bound) = (i128::from(sheet.rate_20()), i128::from(RATE_BOUND));
+    let x = i128::from(sheet.x());
+    if rate >= bound {
+        Fraction::new(1, 10)
+    } else if rate <= -bound {
+        Fraction::new(x, RATE_UNIT)
+    } else {
+        // The mean of both ends, each weighed by the distance from the other.
+        let ten_percent = RATE_UNIT / 10;
+        let sum = (rate + bound) * ten_percent + (bound - rate) * x;
+        Fraction::new(sum, 2 * bound * RATE_UNIT)
+    }
+}
+
+/// k(1) to k(130) of order n at `convergence`, all as parts of one.
+pub fn true_weights(convergence: &Fraction, order: usize, bits: usize) -> Vec<Interval> {
+    let one_over = Fraction {
+        numerator: convergence.denominator.clone(),
+        denominator: convergence.numerator.clone(),
+    };
+    let q = exp_sum(&convergence.interval(bits), order).reciprocal();
+    let mut weight = Interval::integer(1, bits)
+        .sub(&q)
+        .mul(&one_over.interval(bits));
     let mut weights = Vec::new();
-    for _ in 0..count {
+    for _ in 0..HORIZON {
         weights.push(weight.clone());
         weight = weight.mul(&q);
     }

@@ -1,10 +1,13 @@
-//! K(h), the weight of the LLFR in the forward of year 20 + h.
+//! k(h), the weight of the LLFR in the forward of year 20 + h: the table K at a convergence
+//! factor of ten percent, worked for every other.
 
 use std::sync::OnceLock;
 
 use crate::bigint::BigInt;
-use crate::enclosure::U;
+use crate::convergence::{CONVERGENCE_UNIT, TEN_PERCENT};
+use crate::enclosure::{div_down, div_up, Enclosure, U};
 use crate::interval::Interval;
+use crate::series::growth;
 
 /// Extrapolated years.
 pub const HORIZON: usize = 130;
@@ -12,26 +15,45 @@ pub const HORIZON: usize = 130;
 /// About 154 decimal digits, far beyond the nine that K(h) needs.
 const BITS: usize = 512;
 
-/// K(1) to K(130), K(h) at index h - 1.
-pub fn table() -> &'static [i128; HORIZON] {
-    static TABLE: OnceLock<[i128; HORIZON]> = OnceLock::new();
-    TABLE.get_or_init(|| {
-        let weights = weights(HORIZON);
-        std::array::from_fn(|i| weights[i])
+/// The enclosures of k(1) to k(130) at `convergence`, that of k(h) at index h - 1.
+pub fn weights(convergence: i128) -> [Enclosure; HORIZON] {
+    if convergence == TEN_PERCENT {
+        table().map(|weight| Enclosure::new(weight, weight + 1))
+    } else {
+        worked_weights(convergence)
+    }
+}
+
+/// k(h) = P(h-1) × M with P(i) = q^i, q = e^-a and M = (1 - q) / a.
+fn worked_weights(convergence: i128) -> [Enclosure; HORIZON] {
+    // E takes billionths.
+    let growth = growth(10 * convergence);
+    let q = Enclosure::new(div_down(U * U, growth.high), div_up(U * U, growth.low));
+    let m = Enclosure::new(
+        div_down((U - q.high) * CONVERGENCE_UNIT, convergence),
+        div_up((U - q.low) * CONVERGENCE_UNIT, convergence),
+    );
+    let mut power = Enclosure::new(U, U);
+    std::array::from_fn(|_| {
+        let weight = power.product(m);
+        power = power.product(q);
+        Enclosure::new(weight.low, weight.high.min(U))
     })
 }
 
-/// K(1) to K(count): 10 × U × (e^(-(h-1)/10) - e^(-h/10)) rounded down.
-pub fn weights(count: usize) -> Vec<i128> {
-    let q = exp_minus_tenth();
-    let mut before = Interval::integer(1, BITS);
-    let mut weights = Vec::new();
-    for _ in 0..count {
-        let after = before.mul(&q);
-        weights.push(whole_part(&before.sub(&after).times(10 * U)));
-        before = after;
-    }
-    weights
+/// K(1) to K(130), K(h) at index h - 1: 10 × U × (e^(-(h-1)/10) - e^(-h/10)) rounded down.
+pub fn table() -> &'static [i128; HORIZON] {
+    static TABLE: OnceLock<[i128; HORIZON]> = OnceLock::new();
+    TABLE.get_or_init(|| {
+        let q = exp_minus_tenth();
+        let mut before = Interval::integer(1, BITS);
+        std::array::from_fn(|_| {
+            let after = before.mul(&q);
+            let weight = before.sub(&after).times(10 * U);
+            before = after;
+            whole_part(&weight)
+        })
+    })
 }
 
 /// The whole part that both ends share.

@@ -11,8 +11,8 @@ use reference::extrapolation::{last_liquid_forward, log_ultimate};
 use reference::refusal::Refusal;
 use reference::series::{growth, neg_log};
 use reference::sheet::Sheet;
-use reference::true_curve::true_weights;
-use reference::weights;
+use reference::true_curve::{true_weights, Fraction};
+use reference::weights::{table, whole_part};
 
 fn curve(numbers: &Numbers) -> Result<Curve, Refusal> {
     Curve::of(&Sheet::read(&numbers.bytes())?)
@@ -33,8 +33,9 @@ fn desk(input: &[u8]) -> String {
     String::from_utf8(output).unwrap()
 }
 
-fn post_record(numbers: &Numbers) -> Vec<u8> {
-    [vec![0x50], numbers.bytes()].concat()
+fn post_record(bytes: &[u8]) -> Vec<u8> {
+    let length = u16::try_from(bytes.len()).unwrap();
+    [&[0x50], &length.to_be_bytes()[..], bytes].concat()
 }
 
 // Figures
@@ -149,7 +150,7 @@ fn desk_example() {
 
 #[test]
 fn table_of_weights() {
-    let table = weights::table();
+    let table = table();
     assert_eq!(table[0], 951_625_819);
     assert_eq!(table[1], 861_066_649);
     for (h, &weight) in (1..).zip(table) {
@@ -163,9 +164,9 @@ fn table_of_weights() {
 #[test]
 fn table_of_weights_is_the_whole_part_at_every_order() {
     for order in 0..=3 {
-        let exact = true_weights(weights::HORIZON, order, 512);
-        for (weight, exact) in weights::table().iter().zip(&exact) {
-            assert_eq!(*weight, weights::whole_part(&exact.times(U)));
+        let exact = true_weights(&Fraction::new(1, 10), order, 512);
+        for (weight, exact) in table().iter().zip(&exact) {
+            assert_eq!(*weight, whole_part(&exact.times(U)));
         }
     }
 }
@@ -228,10 +229,11 @@ fn ground_1_any_other_length() {
     let bytes = zero().bytes();
     assert_eq!(bytes.len(), 109);
     assert_eq!(sheet_refusal(&bytes), None);
-    for length in 0..109 {
-        assert_eq!(sheet_refusal(&bytes[..length]), Some((1, 0)));
+    for length in (0..65_536).filter(|length| ![109, 112].contains(length)) {
+        let mut other = zero().with_x(20_000).bytes();
+        other.resize(length, 0x06);
+        assert_eq!(sheet_refusal(&other), Some((1, 0)), "{length} bytes");
     }
-    assert_eq!(sheet_refusal(&[bytes, vec![0]].concat()), Some((1, 0)));
 }
 
 #[test]
@@ -485,13 +487,14 @@ fn page_bytes() {
 
 #[test]
 fn desk_lines() {
-    let mut input = vec![0x4D, 0x00, 0x03];
-    input.extend(post_record(&Numbers {
+    let of_month_1 = Numbers {
         month: 1,
         ..flat(3_000)
-    }));
+    };
+    let mut input = vec![0x4D, 0x00, 0x03];
+    input.extend(post_record(&of_month_1.bytes()));
     input.extend([0x4C, 0x02, 0x4D, 0x09, 0x60]);
-    input.extend(post_record(&Numbers { limit: 0, ..zero() }));
+    input.extend(post_record(&Numbers { limit: 0, ..zero() }.bytes()));
     assert_eq!(
         desk(&input),
         "M 3\nP 1\nL 2 942595909 942595910 1 2\nR 11 0\nR 3 25\n"
@@ -503,7 +506,27 @@ fn desk_ends_at_a_cut_body() {
     assert_eq!(desk(&[]), "");
     assert_eq!(desk(&[0x4D, 0x00, 0x00, 0x4C]), "M 0\nX 3\n");
     assert_eq!(desk(&[0x4D, 0x00]), "X 0\n");
-    let post = post_record(&zero());
+    let post = post_record(&zero().bytes());
     assert_eq!(desk(&post), "P 0\n");
-    assert_eq!(desk(&post[..109]), "X 0\n");
+    for length in 1..post.len() {
+        assert_eq!(desk(&post[..length]), "X 0\n");
+    }
+}
+
+#[test]
+fn a_sheet_of_any_length_is_read_to_its_end() {
+    let sheet = zero().with_x(20_000).bytes();
+    for length in [0, 1, 108, 109, 110, 111, 112, 113, 365, 368, 65_535] {
+        let mut posted = sheet.clone();
+        posted.resize(length, 0);
+        let post = post_record(&posted);
+        let answer = match length {
+            109 | 112 => "P 0",
+            _ => "R 1 0",
+        };
+        let input = [&post[..], &[0x4D, 0x00, 0x05, 0x51]].concat();
+        let unknown = 3 + length + 3;
+        assert_eq!(desk(&input), format!("{answer}\nM 5\nX {unknown}\n"));
+        assert_eq!(desk(&post[..post.len() - 1]), "X 0\n");
+    }
 }

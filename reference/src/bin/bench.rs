@@ -1,6 +1,7 @@
-//! Times desk programs on one stream of posts and look-ups, in turn, in one run on one
-//! machine, once it has seen that they print the same; the first desk's time is the
-//! denominator of the ratios.
+//! Times desk programs on a stream of posts and look-ups, in turn, in one run on one
+//! machine, once it has seen that they print the same; then on the same posts with an X,
+//! whose weights are worked anew in each. The first desk's time is the denominator of the
+//! ratios.
 //!
 //!     bench POSTS NAME=DESK NAME=DESK..
 
@@ -9,7 +10,7 @@ use std::path::Path;
 use std::process::{Command, ExitCode, Stdio};
 use std::time::{Duration, Instant};
 
-use reference::streams::{sheet, sheet_bytes, worked, Random};
+use reference::streams::accepted_posts;
 
 /// Each desk is run this often; the fastest run counts, as the least disturbed one.
 const RUNS: usize = 7;
@@ -29,21 +30,33 @@ fn main() -> ExitCode {
         eprintln!("usage: bench POSTS NAME=DESK NAME=DESK..");
         return ExitCode::FAILURE;
     }
-    // Runs beside each other keep to their own streams.
-    let name = format!("desk-bench-{}", std::process::id());
-    let input = std::env::temp_dir().join(name);
-    let best = compared_and_timed(posts, &desks, &input);
-    _ = std::fs::remove_file(&input);
-    match best {
-        Ok(best) => {
-            report(posts, &desks, &best);
-            ExitCode::SUCCESS
-        }
+    match bench(posts, &desks) {
+        Ok(()) => ExitCode::SUCCESS,
         Err(text) => {
             eprintln!("bench: {text}");
             ExitCode::FAILURE
         }
     }
+}
+
+fn bench(posts: usize, desks: &[Desk]) -> Result<(), String> {
+    // Runs beside each other keep to their own streams.
+    let name = format!("desk-bench-{}", std::process::id());
+    let input = std::env::temp_dir().join(name);
+    let run = |with_phase_in| {
+        let best = compared_and_timed(posts, with_phase_in, desks, &input);
+        _ = std::fs::remove_file(&input);
+        best
+    };
+    let without = run(false)?;
+    report("without X", posts, desks, &without);
+    let with = run(true)?;
+    report("with X", posts, desks, &with);
+    for ((desk, with), without) in desks.iter().zip(with).zip(without) {
+        let cost = with.as_secs_f64() / without.as_secs_f64();
+        println!("{}: with X {cost:.2} times as long as without", desk.name);
+    }
+    Ok(())
 }
 
 fn desk(word: &str) -> Option<Desk> {
@@ -54,41 +67,29 @@ fn desk(word: &str) -> Option<Desk> {
     })
 }
 
-fn compared_and_timed(posts: usize, desks: &[Desk], input: &Path) -> Result<Vec<Duration>, String> {
-    std::fs::write(input, stream(posts)).map_err(|e| format!("{}: {e}", input.display()))?;
+fn compared_and_timed(
+    posts: usize,
+    with_phase_in: bool,
+    desks: &[Desk],
+    input: &Path,
+) -> Result<Vec<Duration>, String> {
+    let stream = accepted_posts(SEED, posts, with_phase_in);
+    std::fs::write(input, stream).map_err(|e| format!("{}: {e}", input.display()))?;
     compare(posts, desks, input)?;
     timed(desks, input)
 }
 
-fn report(posts: usize, desks: &[Desk], best: &[Duration]) {
+fn report(sheets: &str, posts: usize, desks: &[Desk], best: &[Duration]) {
     for (desk, time) in desks.iter().zip(best) {
         let seconds = time.as_secs_f64();
         println!(
-            "{}: {seconds:.3} s, {:.0} posts a second, ratio to {} {:.2}",
+            "{}, {sheets}: {seconds:.3} s, {:.0} posts a second, ratio to {} {:.2}",
             desk.name,
             posts as f64 / seconds,
             desks[0].name,
             seconds / best[0].as_secs_f64()
         );
     }
-}
-
-/// Accepted sheets of one month, each followed by a look-up.
-fn stream(posts: usize) -> Vec<u8> {
-    let mut random = Random::new(SEED);
-    let mut stream = vec![0x4D, 0, 1];
-    let mut done = 0;
-    while done < posts {
-        let mut sheet = sheet(&mut random, 1);
-        sheet.limit = 100_000;
-        if worked(&sheet).is_some() {
-            stream.push(0x50);
-            stream.extend(sheet_bytes(&sheet));
-            stream.extend([0x4C, 1 + random.below(150) as u8]);
-            done += 1;
-        }
-    }
-    stream
 }
 
 /// All desks print the first one's lines, and these accept every post: a desk that stops

@@ -1,10 +1,9 @@
-//! Writes the example of the README: two months at an office, as the desk's records or,
-//! with `journal` as argument, as a journal of the C interface.
+//! Writes the example of the README: two months at an office, as records of the desk and of
+//! a journal.
 
 use std::io::Write;
 
-use reference::desk::POST;
-use reference::journal::{self, look_up, turn};
+use reference::journal::{look_up, post, turn};
 use reference::sheet::Sheet;
 use reference::streams::sheet_bytes;
 
@@ -16,15 +15,7 @@ const OCTOBER: u16 = SEPTEMBER + 1;
 const QUOTE_12: usize = 10;
 
 fn main() -> std::io::Result<()> {
-    let as_journal = std::env::args().nth(1).as_deref() == Some("journal");
-    let post = |sheet: &Sheet| {
-        let bytes = sheet_bytes(sheet);
-        if as_journal {
-            journal::post(&bytes)
-        } else {
-            [&[POST], &bytes[..]].concat()
-        }
-    };
+    let post = |sheet: &Sheet| post(&sheet_bytes(sheet));
     let september = sheet(SEPTEMBER, 0);
     let october = sheet(OCTOBER, 12);
     let mut mistyped = october.clone();
@@ -60,5 +51,6 @@ fn sheet(month: u16, shift: i16) -> Sheet {
         volumes: [1_200, 350, 900, 210, 430],
         ufr: 3_450,
         limit: 2_500,
+        phase_in: None,
     }
 }

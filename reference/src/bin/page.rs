@@ -1,15 +1,14 @@
 //! Reads a journal from standard input, makes its calls on a fresh book and writes
-//! the page, or the line of the refusal. The journal is the desk's record stream with
-//! two length bytes before each sheet. A broken journal gives the desk's X line.
+//! the page, or the line of the refusal. A broken journal gives the desk's X line.
 
 use std::io::{self, Write};
 
 use reference::book::{Book, PAGE_LENGTH};
-use reference::desk::{answer, CallReader, Next, SheetFraming};
+use reference::desk::{answer, CallReader, Next};
 
 fn main() -> io::Result<()> {
     let mut book = Book::new();
-    let mut calls = CallReader::new(io::stdin().lock(), SheetFraming::LengthPrefixed);
+    let mut calls = CallReader::new(io::stdin().lock());
     let mut output = io::stdout().lock();
     loop {
         match calls.next_call()? {

@@ -4,11 +4,11 @@
 use std::io;
 
 use reference::book::Book;
-use reference::desk::{make, CallReader, Next, SheetFraming};
+use reference::desk::{make, CallReader, Next};
 
 fn main() -> io::Result<()> {
     let mut book = Book::new();
-    let mut calls = CallReader::new(io::stdin().lock(), SheetFraming::LengthPrefixed);
+    let mut calls = CallReader::new(io::stdin().lock());
     loop {
         match calls.next_call()? {
             Next::Call(call) => match make(&mut book, &call) {

@@ -11,6 +11,8 @@ pub struct Numbers {
     pub volumes: [u32; 5],
     pub ufr: u16,
     pub limit: u32,
+    /// X of the phase-in, where the sheet has its record.
+    pub phase_in: Option<u16>,
 }
 
 /// The zero sheet: month, rates and UFR 0, volumes 1, limit 100,000.
@@ -21,6 +23,7 @@ pub fn zero() -> Numbers {
         volumes: [1; 5],
         ufr: 0,
         limit: 100_000,
+        phase_in: None,
     }
 }
 
@@ -33,7 +36,29 @@ pub fn flat(rate: i16) -> Numbers {
     }
 }
 
+/// A sheet of low rates, in the shape of the end of November 2020: the 20-year rate is 14.
+#[allow(dead_code)]
+pub fn november() -> Numbers {
+    Numbers {
+        rates: [
+            -52, -53, -51, -48, -44, -39, -33, -27, -21, -15, -4, 5, 14, 12, 8, -2, -9,
+        ],
+        volumes: [14, 5, 40, 6, 8],
+        ufr: 360,
+        ..zero()
+    }
+}
+
 impl Numbers {
+    /// The sheet with the phase-in's record.
+    #[allow(dead_code)]
+    pub fn with_x(self, x: u16) -> Self {
+        Numbers {
+            phase_in: Some(x),
+            ..self
+        }
+    }
+
     /// The sheet with the rate of `maturity` replaced.
     #[allow(dead_code)]
     pub fn with_rate(mut self, maturity: u8, rate: i16) -> Self {
@@ -61,6 +86,10 @@ impl Numbers {
         bytes.extend(self.ufr.to_be_bytes());
         bytes.push(0x05);
         bytes.extend(self.limit.to_be_bytes());
+        if let Some(x) = self.phase_in {
+            bytes.push(0x06);
+            bytes.extend(x.to_be_bytes());
+        }
         bytes
     }
 }
