@@ -14,13 +14,16 @@
 #define RATE_UNIT INT64_C(100000)
 #define PAR (RATE_UNIT * U)
 
-enum { SHEET = 109, QUOTES = 17, VOLUMES = 5, SMOOTHING = 20, LAST_QUOTE = 50, YEARS = 150, LAST_MONTH = 2399 };
+enum { SHEET = 109, SHEET_WITH_X = 112, QUOTES = 17, VOLUMES = 5, SMOOTHING = 20, LAST_QUOTE = 50, YEARS = 150, LAST_MONTH = 2399 };
 
 static const int maturities[QUOTES] = {1, 2, 3, 4, 5, 6, 7, 8, 9, 10, 12, 15, 20, 25, 30, 40, 50};
 static const int volume_maturities[VOLUMES] = {20, 25, 30, 40, 50};
 
 /* The index of maturity 20, whose gap is the first with a forward that is used. */
-enum { FIRST_FORWARD = 12 };
+enum { QUOTE_20 = 12, FIRST_FORWARD = QUOTE_20 };
+
+/* The convergence factor at which the table holds, in hundred-millionths, and X of a sheet without one. */
+enum { TEN_PERCENT = 10000000, DEFAULT_X = 10000 };
 
 typedef struct {
     int64_t low, high;
@@ -32,7 +35,7 @@ typedef struct {
 } Ground;
 
 typedef struct {
-    int month, rates[QUOTES], ufr;
+    int month, rates[QUOTES], ufr, x;
     int64_t volumes[VOLUMES], limit;
 } Sheet;
 
@@ -79,11 +82,11 @@ static int rate_start(int j) { return 3 + 4 * j; }
 
 static int volume_start(int j) { return 71 + 6 * j; }
 
-enum { UFR_START = 101, LIMIT_START = 104 };
+enum { UFR_START = 101, LIMIT_START = 104, X_START = 109 };
 
 static bool starts(const uint8_t *record, int kind, int maturity) { return record[0] == kind && record[1] == maturity; }
 
-static Ground check_kinds(const uint8_t *bytes) {
+static Ground check_kinds(const uint8_t *bytes, size_t length) {
     if (bytes[0] != 1) return ground(2, 1);
     for (int j = 0; j < QUOTES; j++)
         if (!starts(bytes + rate_start(j), 2, maturities[j])) return ground(2, 2 + j);
@@ -91,16 +94,18 @@ static Ground check_kinds(const uint8_t *bytes) {
         if (!starts(bytes + volume_start(j), 3, volume_maturities[j])) return ground(2, 19 + j);
     if (bytes[UFR_START] != 4) return ground(2, 24);
     if (bytes[LIMIT_START] != 5) return ground(2, 25);
+    if (length == SHEET_WITH_X && bytes[X_START] != 6) return ground(2, 26);
     return none;
 }
 
-static Sheet numbers(const uint8_t *bytes) {
+static Sheet numbers(const uint8_t *bytes, size_t length) {
     Sheet sheet;
     sheet.month = two_bytes(bytes + 1);
     for (int j = 0; j < QUOTES; j++) sheet.rates[j] = (int16_t)two_bytes(bytes + rate_start(j) + 2);
     for (int j = 0; j < VOLUMES; j++) sheet.volumes[j] = four_bytes(bytes + volume_start(j) + 2);
     sheet.ufr = two_bytes(bytes + UFR_START + 1);
     sheet.limit = four_bytes(bytes + LIMIT_START + 1);
+    sheet.x = length == SHEET_WITH_X ? two_bytes(bytes + X_START + 1) : DEFAULT_X;
     return sheet;
 }
 
@@ -112,14 +117,15 @@ static Ground check_ranges(const Sheet *sheet) {
         if (sheet->volumes[j] > 1000000) return ground(3, 19 + j);
     if (sheet->ufr > 10000) return ground(3, 24);
     if (sheet->limit < 1 || sheet->limit > 100000) return ground(3, 25);
+    if (sheet->x < 10000 || sheet->x > 20000) return ground(3, 26);
     return none;
 }
 
-/* The desk's sheets have the right length, so ground 1 has no place here. */
-static Ground read_sheet(const uint8_t *bytes, Sheet *sheet) {
-    Ground found = check_kinds(bytes);
+static Ground read_sheet(const uint8_t *bytes, size_t length, Sheet *sheet) {
+    if (length != SHEET && length != SHEET_WITH_X) return ground(1, 0);
+    Ground found = check_kinds(bytes, length);
     if (found.number) return found;
-    *sheet = numbers(bytes);
+    *sheet = numbers(bytes, length);
     found = check_ranges(sheet);
     if (found.number) return found;
     int64_t traded = 0;
@@ -298,12 +304,25 @@ static Ground work_quotes(const Sheet *sheet, Quoted *quoted) {
 
 enum { EXTRAPOLATED = YEARS - SMOOTHING };
 
-static int64_t table_k[EXTRAPOLATED + 1]; /* by h; 0 is not used */
+/* The ends of k(h), by h; 0 is not used. */
+typedef struct {
+    Pair at[EXTRAPOLATED + 1];
+} Weights;
+
+static Weights table;
 
 /* Long doubles leave nine digits to spare, and the compared lines would show a wrong one. */
-static void fill_table_k(void) {
-    for (int h = 1; h <= EXTRAPOLATED; h++)
-        table_k[h] = (int64_t)floorl(10.0L * U * (expl((1 - h) / 10.0L) - expl(-h / 10.0L)));
+static void fill_table(void) {
+    for (int h = 1; h <= EXTRAPOLATED; h++) {
+        table.at[h].low = (int64_t)floorl(10.0L * U * (expl((1 - h) / 10.0L) - expl(-h / 10.0L)));
+        table.at[h].high = table.at[h].low + 1;
+    }
+}
+
+/* a, in hundred-millionths. */
+static int64_t convergence(const Sheet *sheet) {
+    int rate = sheet->rates[QUOTE_20], cut = rate < -500 ? -500 : rate > 500 ? 500 : rate;
+    return TEN_PERCENT + (int64_t)(sheet->x - DEFAULT_X) * (500 - cut);
 }
 
 /* The numerator of LLFR, on the forwards' lows or highs. */
@@ -323,13 +342,25 @@ static int64_t smaller(int64_t a, int64_t b) { return a < b ? a : b; }
 
 static int64_t larger(int64_t a, int64_t b) { return a > b ? a : b; }
 
+static void work_weights(int64_t a, Weights *weights) {
+    Pair growth = {growth_low(10 * a), growth_high(10 * a)}, power = {U, U};
+    Pair q = {over_down(U * U, growth.high), over_up(U * U, growth.low)};
+    Pair m = {over_down((U - q.high) * 100000000, a), over_up((U - q.low) * 100000000, a)};
+    for (int h = 1; h <= EXTRAPOLATED; h++) {
+        weights->at[h].low = times_down(power.low, m.low);
+        weights->at[h].high = smaller(times_up(power.high, m.high), U);
+        power.low = times_down(power.low, q.low);
+        power.high = times_up(power.high, q.high);
+    }
+}
+
 static int64_t forward_low(Pair l, Pair llfr, int64_t k) { return div_down(l.low * (U - k) + llfr.low * k, U); }
 
 static int64_t forward_high(Pair l, Pair llfr, int64_t k) { return div_up(l.high * (U - k) + llfr.high * k, U); }
 
-static Pair year_forward(Pair l, Pair llfr, int64_t k) {
-    Pair forward = {smaller(forward_low(l, llfr, k), forward_low(l, llfr, k + 1)),
-                    larger(forward_high(l, llfr, k), forward_high(l, llfr, k + 1))};
+static Pair year_forward(Pair l, Pair llfr, Pair k) {
+    Pair forward = {smaller(forward_low(l, llfr, k.low), forward_low(l, llfr, k.high)),
+                    larger(forward_high(l, llfr, k.low), forward_high(l, llfr, k.high))};
     return forward;
 }
 
@@ -345,8 +376,12 @@ static Ground extrapolate(const Sheet *sheet, const Pair *forwards, Pair *factor
     int64_t ultimate = U + 10000 * (int64_t)sheet->ufr;
     Pair l = {-log_high(ultimate), -log_low(ultimate)};
     Pair llfr = last_liquid_forward(sheet->volumes, forwards);
+    Weights worked;
+    int64_t a = convergence(sheet);
+    if (a != TEN_PERCENT) work_weights(a, &worked);
+    const Pair *weights = a == TEN_PERCENT ? table.at : worked.at;
     for (int h = 1; h <= EXTRAPOLATED; h++) {
-        Pair before = factors[SMOOTHING + h - 1], forward = year_forward(l, llfr, table_k[h]);
+        Pair before = factors[SMOOTHING + h - 1], forward = year_forward(l, llfr, weights[h]);
         Pair factor = {next_low(before.low, forward.high), next_high(before.high, forward.low)};
         if (factor.high > 2 * U) return ground(8, SMOOTHING + h);
         factors[SMOOTHING + h] = factor;
@@ -368,10 +403,10 @@ static Ground work_curve(const Sheet *sheet, Pair *factors) {
 
 /* The book [7]. */
 
-static Ground post(Book *book, const uint8_t *bytes) {
+static Ground post(Book *book, const uint8_t *bytes, size_t length) {
     Sheet sheet;
     Pair factors[YEARS + 1];
-    Ground found = read_sheet(bytes, &sheet);
+    Ground found = read_sheet(bytes, length, &sheet);
     if (found.number) return found;
     if (sheet.month > book->told) return ground(5, 0);
     if (book->has_curve && sheet.month < book->month) return ground(6, 0);
@@ -401,8 +436,8 @@ static Ground look_up(const Book *book, int year, Pair *factor) {
 
 static void print_refusal(Ground ground) { printf("R %d %d\n", ground.number, ground.place); }
 
-static void answer_post(Book *book, const uint8_t *body) {
-    Ground found = post(book, body);
+static void answer_post(Book *book, const uint8_t *body, size_t length) {
+    Ground found = post(book, body, length);
     if (found.number)
         print_refusal(found);
     else
@@ -427,27 +462,37 @@ static void answer_look_up(const Book *book, const uint8_t *body) {
                book->told - book->month);
 }
 
-/* 0 for an unknown kind. */
-static size_t body_length(int kind) { return kind == 0x50 ? SHEET : kind == 0x4D ? 2 : kind == 0x4C ? 1 : 0; }
+/* A sheet's length stands before it. */
+static size_t head_length(int kind) { return kind == 0x50 ? 2 : 0; }
+
+/* Reads what follows the kind; false where the kind is unknown or the body is cut. */
+static bool read_body(int kind, uint8_t *body, size_t *length) {
+    uint8_t head[2];
+    size_t heading = head_length(kind);
+    if (fread(head, 1, heading, stdin) < heading) return false;
+    *length = kind == 0x50 ? (size_t)two_bytes(head) : kind == 0x4D ? 2 : 1;
+    bool known = kind == 0x50 || kind == 0x4D || kind == 0x4C;
+    return known && fread(body, 1, *length, stdin) == *length;
+}
 
 int main(void) {
     static Book book; /* all zero: a fresh one */
-    uint8_t body[SHEET];
+    static uint8_t body[UINT16_MAX];
+    size_t length;
     unsigned long long offset = 0;
-    fill_table_k();
+    fill_table();
     for (int kind; (kind = getchar()) != EOF;) {
-        size_t length = body_length(kind);
-        if (length == 0 || fread(body, 1, length, stdin) < length) {
+        if (!read_body(kind, body, &length)) {
             printf("X %llu\n", offset);
             break;
         }
         if (kind == 0x50)
-            answer_post(&book, body);
+            answer_post(&book, body, length);
         else if (kind == 0x4D)
             answer_turn(&book, body);
         else
             answer_look_up(&book, body);
-        offset += 1 + length;
+        offset += 1 + head_length(kind) + length;
     }
     return 0;
 }
