@@ -8,7 +8,7 @@ use std::collections::BTreeMap;
 use common::{damage, journal, journals, posted};
 use interface::answer_after;
 use reference::journal::{self, look_up, post, turn, NO_RECORD};
-use reference::streams::{sheet, sheet_bytes, Random};
+use reference::streams::{low_rates, sheet, sheet_bytes, Random};
 
 /// Records that are asked about after each journal.
 const RECORDS: u64 = 8;
@@ -131,4 +131,33 @@ fn every_ground_is_answered_with_its_place() {
         at += record.len();
     }
     assert_eq!(answer_after(&bytes, &[]), NO_RECORD);
+}
+
+#[test]
+fn sheets_of_every_length_are_answered() {
+    let sheet = sheet_bytes(&low_rates(0, Some(20_000)));
+    for length in (0..=400).chain([512, 4_096, 65_535]) {
+        let mut bytes = sheet.clone();
+        bytes.resize(length, 0);
+        let expected = if [109, 112].contains(&length) { 0 } else { 1 };
+        assert_eq!(answer_after(&[], &post(&bytes)), expected, "{length} bytes");
+    }
+}
+
+#[test]
+fn every_26th_record_is_answered() {
+    let sheet = sheet_bytes(&low_rates(0, None));
+    let answer = |last: [u8; 3]| answer_after(&[], &post(&[&sheet[..], &last].concat()));
+    for kind in (0..=255).filter(|&kind| kind != 0x06) {
+        assert_eq!(answer([kind, 0x4E, 0x20]), 2 + 256 * 26, "kind {kind}");
+    }
+    for x in (0..=u16::MAX)
+        .step_by(97)
+        .chain([9_999, 10_000, 20_000, 20_001])
+    {
+        let [high, low] = x.to_be_bytes();
+        let outside = !(10_000..=20_000).contains(&x);
+        let expected = if outside { 3 + 256 * 26 } else { 0 };
+        assert_eq!(answer([0x06, high, low]), expected, "X {x}");
+    }
 }

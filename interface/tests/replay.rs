@@ -1,14 +1,31 @@
 //! The proved library's look-ups and pages against the second implementation's, on random
-//! journals.
+//! journals, and on sheets of the phase-in against figures written by hand.
 
 mod common;
 
 use common::{journal, journals, posted};
 use interface::{look_after, page_after};
-use reference::journal::book_after;
-use reference::streams::Random;
+use reference::convergence::TEN_PERCENT;
+use reference::journal::{book_after, post};
+use reference::sheet::Sheet;
+use reference::streams::{low_rates, sheet, sheet_bytes, worked, Random};
 
 const BUFFERS: [usize; 5] = [0, 1_504, 1_505, 1_506, 2_000];
+
+/// The page of a sheet that is accepted.
+fn page_of(sheet: &Sheet) -> Vec<u8> {
+    let mut page = vec![0; 1_505];
+    assert_eq!(page_after(&post(&sheet_bytes(sheet)), &mut page), 0);
+    page
+}
+
+/// Low and high of a year of a sheet that is accepted.
+fn band_of(sheet: &Sheet, year: u64) -> (u32, u32) {
+    let mut out = [0; 12];
+    assert_eq!(look_after(&post(&sheet_bytes(sheet)), year, &mut out), 0);
+    let number = |at: usize| u32::from_be_bytes([out[at], out[at + 1], out[at + 2], out[at + 3]]);
+    (number(0), number(4))
+}
 
 #[test]
 fn pages_agree() {
@@ -71,4 +88,45 @@ fn short_buffers_are_refused() {
     assert_eq!(look_after(&journal, 1, &mut out), 15);
     assert_eq!(out, [9; 11]);
     assert_eq!(page_after(&[], &mut [0; 2_000]), 14);
+}
+
+#[test]
+fn pages_with_x_agree() {
+    let mut random = Random::new(35);
+    let mut done = 0;
+    while done < journals() / 4 {
+        let sheet = sheet(&mut random, 0);
+        if sheet.convergence() == TEN_PERCENT || worked(&sheet).is_none() {
+            continue;
+        }
+        let mut expected = vec![0; 1_505];
+        let book = book_after(&post(&sheet_bytes(&sheet)));
+        assert_eq!(book.page(&mut expected), Ok(()));
+        assert_eq!(page_of(&sheet), expected, "{sheet:?}");
+        done += 1;
+    }
+}
+
+#[test]
+fn november_2020() {
+    let phased_in = low_rates(0, Some(20_000));
+    assert_eq!(band_of(&phased_in, 21), (996_928_761, 996_928_786));
+    assert_eq!(band_of(&phased_in, 60), (884_663_358, 884_664_093));
+    assert_eq!(band_of(&phased_in, 150), (640_244_924, 640_246_623));
+    let plain = low_rates(0, None);
+    assert_eq!(band_of(&plain, 150), (647_775_926, 647_777_646));
+}
+
+#[test]
+fn a_factor_of_ten_percent_pages_as_without_the_record() {
+    let plain = low_rates(0, None);
+    assert_eq!(page_of(&low_rates(0, Some(10_000))), page_of(&plain));
+    assert_ne!(page_of(&low_rates(0, Some(10_001))), page_of(&plain));
+    for rate in [500, 501, 3_000] {
+        let flat = |phase_in| Sheet {
+            rates: [rate; 17],
+            ..low_rates(0, phase_in)
+        };
+        assert_eq!(page_of(&flat(Some(20_000))), page_of(&flat(None)));
+    }
 }

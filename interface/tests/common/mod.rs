@@ -1,7 +1,7 @@
 //! Random journals: whole, damaged, cut and empty ones, with sheets of any length.
 
 use reference::journal::{look_up, post, turn};
-use reference::streams::{sheet, sheet_bytes, Random};
+use reference::streams::{typed_sheet, Random};
 
 /// How many journals are tried: 400, or what the environment's JOURNALS says.
 pub fn journals() -> u64 {
@@ -26,15 +26,9 @@ pub fn journal(random: &mut Random) -> Vec<u8> {
     journal
 }
 
-/// The record of a post; one sheet in six is short or long.
+/// The record of a post.
 pub fn posted(random: &mut Random, month: u16) -> Vec<u8> {
-    let mut bytes = sheet_bytes(&sheet(random, month));
-    match random.below(12) {
-        0 => bytes.truncate(random.below(110) as usize),
-        1 => bytes.extend([0; 3]),
-        _ => {}
-    }
-    post(&bytes)
+    post(&typed_sheet(random, month))
 }
 
 /// Puts any byte in some place, or cuts the bytes; most often neither.
