@@ -23,7 +23,9 @@ use Rattle.bootstrap.specs.Liquids.{asBootstrap}
 use Rattle.bootstrap.proofs.Soundness.{count-is, gaps-is, same-length, same-gaps}
 use Rattle.extrapolation.specs.declared.Years.{Years}
 use Rattle.extrapolation.specs.declared.Extended.{Extended}
-use Rattle.extrapolation.specs.Extrapolated.{asYears, factorAt, InRange, Usable, Kept}
+use Rattle.extrapolation.specs.Extrapolated.{asYears, factorAt, InRange, Usable, Ahead, Kept}
+use Rattle.convergence.specs.declared.Weights.{Weights}
+use Rattle.convergence.specs.Weights.{WeightsOf}
 use Rattle.curve.specs.Curves.{firstYears, WorkedQuotes, Extends}
 
 -- ---- the quotes were worked: all 50 factors and all 7 gaps
@@ -96,3 +98,14 @@ module _ {n : Numbers} {q : Liquid} (w : WorkedQuotes n q) where
 
 pub usable : (f : code.SignedPair) {p : SignedPair} → asSignedPair f ≡ p → SizeAtMost forwardBound f → p .low ≤ℤ p .high → Usable f
 usable f e b h = record { size = b; ordered = subst⁻¹ (λ (p : SignedPair). p .low ≤ℤ p .high) e h }
+
+-- ---- κ's pairs by their promise
+
+pub weights-ahead : (a : ℕ) (r : Weights) → WeightsOf a r → length (r .lows) ≡ 130 → length (r .highs) ≡ 130 → Ahead (r .lows) (r .highs) smoothingYear
+weights-ahead a r w lows highs =
+    record {
+      started = omega arith;
+      to-150 = omega arith;
+      as-many = omega arith;
+      ranges = λ i h. let weight = w .weigh i (omega arith) in record { ordered = weight .ordered; at-most-U = weight .at-most-U };
+    }

@@ -1,15 +1,18 @@
 -- What `curveOf` comes to, test by test, with the years in two arrays.
-use mathlib.Core.Path.{_≡_, refl}
+use mathlib.Core.Path.{_≡_, refl, _∙_}
 use mathlib.Core.List.{List}
 use Prim.Native.Nat.{ℕ}
+use lib.Dec.{eqb}
 use lib.ListN.{length, take, drop, take-append-drop, length-take}
 use borrow.Author.Tests.{eq-eqb, ne-eqb}
 use Rattle.method.specs.Units.{pair, pairsOf}
-use Rattle.method.specs.Grounds.{Ground, bandTooWide, refused, done, _>>=_}
+use Rattle.method.specs.Grounds.{Ground, bandTooWide, refused, done, _>>=_, demand}
 use Rattle.method.specs.Sheet.{Numbers, maturities}
 use Rattle.method.specs.Quotes.{Bootstrap, bootstrap, quotesOf}
 use Rattle.method.specs.Extrapolation.{firstTooWide}
+use Rattle.method.specs.Curve as method
 use Rattle.method.specs.Curve.{Curve, smoothingYear, withinLimit, extended, curveOf}
+use Rattle.method.proofs.Outcome.{bind-assoc}
 use Rattle.method.proofs.QuotesBounds.{bootstrap-length}
 use Rattle.method.proofs.Zips.{zip-left, zip-right}
 use Rattle.curve.specs.Curves.{laterYears, banded}
@@ -52,5 +55,6 @@ module _ (n : Numbers) where
     years-banded lows highs same quoted later =
         let first = zip-left pair (λ p. p .low) (λ l h. refl) lows highs same in
         let second = zip-right pair (λ p. p .high) (λ l h. refl) lows highs same in
-        rw (d, twenty, later, ← quoted, take-append-drop smoothingYear (pairsOf lows highs))
-        (judged-with (pairsOf lows highs) first second)
+        let wide = firstTooWide (n .limit) 1 (pairsOf lows highs) in
+        let made = bind-assoc (demand (eqb wide 0) (bandTooWide wide)) (λ _. done (pairsOf lows highs)) (λ years. done (method.curveWith n years)) in
+        rw (d, twenty, later, ← quoted, take-append-drop smoothingYear (pairsOf lows highs)) (made ∙ rw (first, second))

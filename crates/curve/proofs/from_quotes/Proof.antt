@@ -35,7 +35,7 @@ returns c =
     let told = c .before .enum-told2 .given .1 in
     let years = at-years .all-years in
     refused-alone (c .unworked .ensures .0) told (c .unworked .ensures .1)
-    (later-refused _ (asBootstrap (s .args .q)) (s .pre .worked) (at-verdict _ told (years .ensures .later)))
+    (later-refused _ (asBootstrap (s .args .q)) (s .pre .worked) (s .pre .numbers .rate-count) (at-verdict _ told (years .ensures .later)))
 
 judged-requires : tie.Need-judged-requires
 judged-requires c κs = search needs
@@ -48,7 +48,7 @@ returns-2 c =
     let years = at-years .all-years in
     let later = at-verdict _ (at-told .enum-told .given .1) (years .ensures .later) in
     let worked =
-    years-banded _ (asBootstrap (s .args .q)) (s .pre .worked) (years .result .years .lows) (years .result .years .highs)
+    years-banded _ (asBootstrap (s .args .q)) (s .pre .worked) (s .pre .numbers .rate-count) (years .result .years .lows) (years .result .years .highs)
     (same at-years)
     (years .ensures .quoted)
     later in
