@@ -7,8 +7,9 @@
  * Numbers have the high byte first. Reading stops at an unknown kind or a cut body, so every journal means some list of
  * calls, which is run from a fresh book. Nothing is kept between two of these calls.
  *
- * This is the interface of the base. Later ones insert parameters and lengthen replies, so a program is compiled with the
- * header of the library that it is linked with.
+ * This is the interface from the phase-in (U1) on, in which a sheet may have 112 bytes; its functions are those of the base.
+ * Later ones insert parameters and lengthen replies, so a program is compiled with the header of the library that it is
+ * linked with.
  *
  * It is proved of tuyqorem_look_after and tuyqorem_page_after, for every journal: no curve is found exactly when no post
  * of the journal was accepted; otherwise month and age are those of the last accepted sheet and turn, and each band is

@@ -348,7 +348,7 @@ fn true_last_liquid_forward(
     )
 }
 
-/// The convergence factor as a part of one, in the words of source document 003: ten percent
+/// The convergence factor as a part of one, in the words of the phase-in paper: ten percent
 /// at a 20-year rate of 0.5% or higher, X at -0.5% or lower, linear between them.
 pub fn true_convergence(sheet: &Sheet) -> Fraction {
     let (rate, bound) = (i128::from(sheet.rate_20()), i128::from(RATE_BOUND));

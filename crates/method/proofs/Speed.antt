@@ -1,4 +1,4 @@
--- The sheet's factor a, worked from the cut rate, is source 003's α in hundred-millionths: ten percent, X, or linear between.
+-- The sheet's factor a, worked from the cut rate, is the phase-in paper's α in hundred-millionths: ten percent, X, or linear between.
 use mathlib.Core.Path.{_≡_, refl, ap, sym, _∙_}
 use mathlib.Core.Bool.{Bool, true, false, cond}
 use mathlib.Core.List.{[], _∷_}

@@ -51,7 +51,7 @@ minus2000 = 0xF830
 abbrev pub minus : ℕ → ℕ
 minus n = 0x10000 - n
 
--- November 2020, as source 003 has it: the 20-year rate is 0.014%
+-- a sheet of low rates, with the phase-in paper's 20-year rate of November 2020, 0.014%
 abbrev pub novemberRates : List ℕ
 novemberRates =
     minus 52 ∷ minus 53 ∷ minus 51 ∷ minus 48 ∷ minus 44 ∷ minus 39 ∷ minus 33 ∷ minus 27 ∷ minus 21 ∷ minus 15 ∷ minus 4 ∷ 5 ∷ 14 ∷ 12 ∷ 8 ∷ minus 2
@@ -135,7 +135,7 @@ others =
 -- the phase-in's
 unfoldable pub phaseInFigures : List Figure
 phaseInFigures =
-    -- source 003's own factors, at X 20,000 and 20-year rates of 0.014%, -0.086%, -0.186%, 0.114%, 0.214%
+    -- the phase-in paper's own factors, at X 20,000 and 20-year rates of 0.014%, -0.086%, -0.186%, 0.114%, 0.214%
     (map (λ r. pos (convergenceFactor 20_000 r)) (pos 14 ∷ negsuc 85 ∷ negsuc 185 ∷ pos 114 ∷ pos 214 ∷ [])
     is (14_860_000 ∷ 15_860_000 ∷ 16_860_000 ∷ 13_860_000 ∷ 12_860_000 ∷ []))
     -- the rate is cut; 10,000 adds nothing

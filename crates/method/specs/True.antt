@@ -1,5 +1,5 @@
 -- SPECIFICATION 6: the true curve of order n. No rounding, worked from the sheet's numbers alone, still in billionths. Written
--- from the method paper, beside the computed curve and not by it; the paper's names stand in the comments.
+-- from the method paper and the phase-in paper, beside the computed curve and not by it; their names stand in the comments.
 use mathlib.Core.Bool.{Bool, cond}
 use mathlib.Core.List.{List, [], _∷_, _++_, map}
 use Prim.Native.Nat.{ℕ, zero, suc, _+_, _*_, _-_, _^_}
