@@ -32,21 +32,30 @@ abbrev last : Bool → List Entry
 last phased = cond phased (entry phaseIn 0 ∷ []) []
 
 module _ (l : Layout) where
-  pub slots-least : 25 ≤ length (slotsOf l)
+  pub slots-length : length (slotsOf l) ≡ cond (l .phased) 26 25
   unfolding maturities volumeMaturities firstEntries entriesOf slotsFrom slotsOf
-  slots-least = omega arith
-
-  pub slots-most : length (slotsOf l) ≤ 26
-  unfolding maturities volumeMaturities firstEntries entriesOf slotsFrom slotsOf
-  slots-most = go (l .phased)
+  slots-length = go (l .phased)
     where
-      go : (phased : Bool) → length (slotsOf (record { phased = phased })) ≤ 26
+      go : (phased : Bool) → length (slotsOf (record { phased = phased })) ≡ cond phased 26 25
+      go true = refl
+      go false = refl
+
+  pub slots-least : 25 ≤ length (slotsOf l)
+  slots-least = rw slots-length (go (l .phased))
+    where
+      go : (phased : Bool) → 25 ≤ cond phased 26 25
       go true = omega arith
       go false = omega arith
 
   pub slots-phased : l .phased ≡ true → 26 ≤ length (slotsOf l)
-  unfolding maturities volumeMaturities firstEntries entriesOf slotsFrom slotsOf
-  slots-phased e = rw e (omega arith)
+  slots-phased e = rw (slots-length, e) (omega arith)
+
+  pub slots-most : length (slotsOf l) ≤ 26
+  slots-most = rw slots-length (go (l .phased))
+    where
+      go : (phased : Bool) → cond phased 26 25 ≤ 26
+      go true = omega arith
+      go false = omega arith
 
   pub month-slot : slotAt l 0 ≡ slot month 0 0
   unfolding maturities volumeMaturities firstEntries entriesOf slotsFrom slotsOf

@@ -1,6 +1,5 @@
 pub mod Bodies
-pub mod Layouts
+pub mod Cursor
 pub mod Places
-pub mod Filling
 pub mod Trading
 pub mod Ranges

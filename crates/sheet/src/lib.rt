@@ -349,15 +349,17 @@ fn volumes(numbers: &[i64]) -> [u64; 5]
     volumes
 }
 
-// A sheet without the record counts as one with 10,000.
+// What a sheet without the phase-in's record counts as.
+const ABSENT_PHASE_IN: u64 = 10_000;
+
 fn phase_in(numbers: &[i64], layout: Layout) -> u64
     requires { ⌜ AllInside (asLayout layout) (now numbers) ⌝ }
-    ensures { λ r. ⌜ r ≡ cond (layout .phased) (natAbs (getD (now (numbers .entry)) 25 (pos 0))) 10_000 ⌝ }
+    ensures { λ r. ⌜ r ≡ numbersOf (asLayout layout) (now (numbers .entry)) .phaseIn ⌝ }
 {
     if layout.phased {
         unsigned(numbers, 25)
     } else {
-        10_000
+        ABSENT_PHASE_IN
     }
 }
 

@@ -1,7 +1,7 @@
 -- The definition's count of slots, computed for each layout.
 use mathlib.Core.Path.{refl}
 use native.Mathlib.Omega.{arith}
-use Rattle.sheet.proofs.Layouts.{slots-length}
+use Rattle.method.proofs.Slots.{slots-length}
 use Rattle.sheet.specs.Views.{asLayout}
 use Rattle.sheet.proofs.count_of.Statement.{statement}
 use Rattle.sheet.proofs.count_of.Tie as tie

@@ -3,13 +3,12 @@ use mathlib.Core.Path.{_≡_, refl, sym, ap, _∙_}
 use mathlib.Core.Bool.{Bool, true, false, cond}
 use Prim.Native.Nat.{ℕ, _+_, _-_, _<_}
 use native.Mathlib.Omega.{arith}
-use lib.ListN.{length}
-use Rattle.method.specs.Sheet.{Layout, slotsOf, slot, slotAt}
-use Rattle.method.proofs.Slots.{month-slot, rate-slot, volume-slot, ultimate-slot, limit-slot, phase-in-slot}
+use lib.ListN.{length, getD}
+use Rattle.method.specs.Sheet.{maturities, Layout, slotsOf, slot, slotAt}
+use Rattle.method.proofs.Slots.{slots-length, month-slot, rate-slot, volume-slot, ultimate-slot, limit-slot, phase-in-slot}
 use Rattle.sheet.specs.declared.Entry.{Entry}
 use Rattle.sheet.specs.Views.{asKind}
 use Rattle.sheet.specs.Records.{Due}
-use Rattle.sheet.proofs.Layouts.{slots-length}
 use borrow.Author.Needs.{needs}
 use Rattle.sheet.proofs.entry_at.Statement.{statement}
 use Rattle.sheet.proofs.entry_at.Tie as tie
@@ -51,7 +50,8 @@ returns-2 c =
 returns-3 : tie.Need-returns-3
 returns-3 c =
     let i = c .before .before .before .before .args .i in
-    due _ (18 + (i - 18)) (c .maturity2 .ensures) (omega arith) (λ l h. volume-slot l (i - 18) (omega arith))
+    let m : c .maturity2 .result ≡ getD maturities (12 + (i - 18)) 0 = c .maturity2 .ensures in
+    due _ (18 + (i - 18)) m (omega arith) (λ l h. volume-slot l (i - 18) (omega arith))
 
 returns-4 : tie.Need-returns-4
 returns-4 c = due _ 23 refl (omega arith) (λ l h. ultimate-slot l)

@@ -1,7 +1,7 @@
 -- The 25 records that every sheet has come to 109 bytes.
 use mathlib.Core.Path.{refl}
 use Rattle.method.specs.Sheet.{layoutOf}
-use Rattle.sheet.proofs.Layouts.{first-bytes}
+use Rattle.method.proofs.Layouts.{first-bytes}
 use Rattle.sheet.proofs.layout_of.Statement.{statement}
 use Rattle.sheet.proofs.layout_of.Tie as tie
 

@@ -3,7 +3,6 @@ use mathlib.Core.Path.{refl}
 use native.Mathlib.Omega.{arith}
 use Rattle.method.proofs.Slots.{slots-phased, phase-in-slot}
 use Rattle.sheet.proofs.Ranges.{unsigned-inside}
-use borrow.Author.Needs.{needs}
 use Rattle.sheet.proofs.phase_in.Statement.{statement}
 use Rattle.sheet.proofs.phase_in.Tie as tie
 
@@ -16,7 +15,7 @@ returns : tie.Need-returns
 returns c = rw (c .before .if1 .taken) (c .unsigned .ensures)
 
 returns-2 : tie.Need-returns-2
-returns-2 c = search needs
+returns-2 c = rw (c .if1 .left) refl
 
 pub phase-in-spec : {M : Type 1} → statement M
 phase-in-spec = tie.close (tie.spec unsigned-requires returns returns-2)

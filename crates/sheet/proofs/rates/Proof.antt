@@ -8,7 +8,7 @@ use mir.Syntax.{w16, w64}
 use mir.Val.{SFits}
 use mir.Facts.{sfits-widen}
 use mir.ValLaws.{toZ-ofZ}
-use Rattle.sheet.proofs.Filling.{Filled, filled-none, filled-more, filled-all, part-length, part-at}
+use Rattle.method.proofs.Filling.{Filled, filled-none, filled-more, filled-all, part-length, part-at}
 use Rattle.sheet.proofs.Ranges.{rate-small}
 use borrow.Author.Needs.{needs}
 use Rattle.sheet.proofs.rates.Statement.{statement}

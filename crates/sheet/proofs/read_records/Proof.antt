@@ -12,8 +12,8 @@ use denote.Ref.{now}
 use Rattle.method.specs.Sheet.{rightRecord, inRange, numberOfRecord, Layout, slotsOf, slot, noSlot, slotAt}
 use Rattle.method.proofs.Slots.{slots-most}
 use Rattle.sheet.specs.Views.{asLayout, asKind}
-use Rattle.sheet.proofs.Layouts.{cursor, cursor-first, cursor-most, slot-here, slot-end}
-use Rattle.sheet.proofs.Filling.{Filled, filled-none, filled-more, filled-all}
+use Rattle.sheet.proofs.Cursor.{cursor, cursor-first, cursor-most, slot-here, slot-end}
+use Rattle.method.proofs.Filling.{Filled, filled-none, filled-more, filled-all}
 use Rattle.sheet.proofs.Places.{Found, found-none, found-more, found-all}
 use borrow.Author.Needs.{needs}
 use Rattle.sheet.proofs.read_records.Statement.{statement}

@@ -6,7 +6,7 @@ use native.Mathlib.Omega.{arith}
 use lib.IntN.{pos, natAbs}
 use lib.ListN.{take, drop, getD, length-map, List·getD-map}
 use Rattle.method.specs.Sheet.{volume}
-use Rattle.sheet.proofs.Filling.{Filled, filled-none, filled-more, filled-all, part-length, part-at}
+use Rattle.method.proofs.Filling.{Filled, filled-none, filled-more, filled-all, part-length, part-at}
 use Rattle.sheet.proofs.Ranges.{no-sign}
 use borrow.Author.Needs.{needs}
 use Rattle.sheet.proofs.volumes.Statement.{statement}

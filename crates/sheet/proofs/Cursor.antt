@@ -1,6 +1,5 @@
--- How many records a layout has, how many bytes, and where each record starts: after the bytes of those before it.
+-- The cursor along a sheet: each record starts after the bytes of those before it.
 use mathlib.Core.Path.{_≡_, refl, sym}
-use mathlib.Core.Bool.{Bool, true, false, cond}
 use mathlib.Core.List.{List, [], _∷_}
 use Prim.Native.Nat.{ℕ, zero, suc, _+_, _≤_, _<_}
 use native.Mathlib.Nat.{not-suc-le-zero, le-of-suc-le-suc}
@@ -8,42 +7,20 @@ use native.Mathlib.Numerals.{add-one}
 use native.Mathlib.Omega.{arith}
 use lib.ListN.{length, take, getD}
 use Rattle.method.specs.Sheet as method
-use Rattle.method.specs.Sheet.{bodyLength, maturities, volumeMaturities, firstEntries, total, bytesOf, Layout, entriesOf, sizeOf}
+use Rattle.method.specs.Sheet.{bodyLength, total, bytesOf, Layout, entriesOf, sizeOf}
 use Rattle.method.specs.Sheet.{Slot, slotsFrom, slotsOf, slot, noSlot, slotAt}
 use Rattle.sheet.specs.declared.Entry.{Entry}
 use Rattle.sheet.specs.Views.{asKind}
 use Rattle.sheet.specs.Records.{Due}
 
--- ---- counts
-
-slot-count : (phased : Bool) → length (slotsOf (record { phased = phased })) ≡ cond phased 26 25
-unfolding maturities volumeMaturities firstEntries entriesOf slotsFrom slotsOf
-slot-count true = refl
-slot-count false = refl
-
-pub slots-length : (l : Layout) → length (slotsOf l) ≡ cond (l .phased) 26 25
-slots-length l = slot-count (l .phased)
-
-byte-count : (phased : Bool) → sizeOf (record { phased = phased }) ≡ cond phased 112 109
-unfolding maturities volumeMaturities firstEntries total bytesOf entriesOf sizeOf
-byte-count true = refl
-byte-count false = refl
-
-pub size-is : (l : Layout) → sizeOf l ≡ cond (l .phased) 112 109
-size-is l = byte-count (l .phased)
-
-pub first-bytes : bytesOf firstEntries ≡ 109
-unfolding maturities volumeMaturities firstEntries total bytesOf
-first-bytes = refl
-
--- ---- the cursor
-
+-- a record starts after the bytes of those before it
 starts : (s : ℕ) (es : List method.Entry) (i : ℕ) → i < length (slotsFrom s es) → getD (slotsFrom s es) i noSlot .start ≡ s + bytesOf (take i es)
 unfolding total bytesOf slotsFrom
 starts s [] i h = absurd (not-suc-le-zero h)
 starts s (e ∷ es) zero h = omega arith
 starts s (e ∷ es) (suc i) h = omega (arith, starts (s + 1 + bodyLength (e .kind)) es i (le-of-suc-le-suc h))
 
+-- and adds its kind byte and its body
 adds : (s : ℕ) (es : List method.Entry) (i : ℕ) → i < length (slotsFrom s es) →
     bytesOf (take (suc i) es) ≡ bytesOf (take i es) + 1 + bodyLength (getD (slotsFrom s es) i noSlot .kind)
 unfolding total bytesOf slotsFrom
@@ -72,17 +49,17 @@ module _ (l : Layout) where
 
   pub cursor-next : (i : ℕ) → i < length (slotsOf l) → cursor (i + 1) ≡ cursor i + 1 + bodyLength (slotAt l i .kind)
   unfolding slotsOf
-  cursor-next i h = rw add-one (adds 0 (entriesOf l) i h)
+  cursor-next i h = rw (add-one i) (adds 0 (entriesOf l) i h)
 
   pub cursor-most : (i : ℕ) → cursor i ≤ sizeOf l
   unfolding sizeOf
   cursor-most i = front-most (entriesOf l) i
 
-  -- an entry that is due, at the cursor
+  -- an entry that is due, at the cursor, is the slot
   pub slot-here : (e : Entry) (i start : ℕ) → Due i e → i < length (slotsOf l) → start ≡ cursor i →
       slot (asKind (e .kind)) (e .maturity) start ≡ slotAt l i
   slot-here e i start d h at = rw (d .kind l h, d .maturity l h, at, ← cursor-start i h)
 
-  -- the next record starts after it
+  -- after it the cursor stands at the next
   pub slot-end : (t : Slot) (i : ℕ) → i < length (slotsOf l) → t ≡ slotAt l i → t .start + 1 + bodyLength (t .kind) ≡ cursor (i + 1)
   slot-end t i h e = rw (e, cursor-start i h) (sym (cursor-next i h))
