@@ -1,5 +1,5 @@
 -- The curve as it was worked before the phase-in, with the table's weights whatever the sheet's factor is. A sheet whose factor is
--- 10% has this curve, digit for digit (`at-ten-percent`, `without-record`, `with-10000`, `from-half-percent` in `proofs/Earlier`).
+-- 10% has this curve, digit for digit (`at-ten-percent`), and so has each of up to 109 bytes (`earlier-answer`, in `proofs/Earlier`).
 use mathlib.Core.List.{_++_}
 use Prim.Native.Nat.{_+_}
 use lib.ListN.{take}
