@@ -115,11 +115,15 @@ fn serve_held(book: Book, held: &[u8], text: &mut [u8]) -> Served
 
 // ---- a pass
 
-// Moves the bytes from `from` to `to` to the front, and says how many they are.
+// Moves the bytes from `from` to `to` to the front, and says how many they are. Bytes that stand there are left alone: a long record may
+// come in many small reads.
 fn move_down(bytes: &mut [u8], from: usize, to: usize) -> usize
     requires { ⌜ (from ≤ to) × (to ≤ length (now bytes)) ⌝ }
     ensures { λ r. ⌜ (r ≡ to - from) × (take r (now (bytes .exit)) ≡ drop from (take to (now (bytes .entry)))) ⌝ }
 {
+    if from == 0 {
+        return to;
+    }
     let mut i: usize = 0;
     while i < to - from {
         bytes[i] = bytes[from + i];

@@ -7,6 +7,7 @@ use native.Mathlib.Omega.{arith}
 use borrow.Author.Tests.{leb-true, leb-false, le-leb, lt-ltb, le-ltb}
 use lib.Dec.{leb, ltb, eqb, eqb·suc-zero}
 use lib.ListN.{length, drop}
+use Rattle.method.specs.Grounds.{wrongLength, wrongRecord, outOfRange, noVolume}
 use Rattle.method.specs.Grounds.{Ground, afterToldMonth, beforeStandingCurve, monthAboveLast, monthBeforeTold, yearOutside, noCurve, bufferTooShort}
 use Rattle.method.specs.Grounds.{Outcome, refused, done, _>>=_, demand}
 use Rattle.method.specs.Sheet.{Numbers, readSheet, sheetNumbers, layoutOf, sizeOf, slotsOf, firstFailure, rightRecord, inRange, total}
@@ -64,12 +65,18 @@ outcome-first b s =
     let o = curveOf n in
     let wrong = firstFailure (rightRecord s) 1 (slotsOf (layoutOf s)) in
     let outside = firstFailure (inRange s) 1 (slotsOf (layoutOf s)) in
-    rw (← either-length s, none-traded (total (n .volumes)), not-at-most (b .told) (n .month), before-standing (b .standing) (n .month))
-    (read-first _ n
+    let two : Applies = when (not (eqb wrong 0)) (wrongRecord wrong) in
+    let three : Applies = when (not (eqb outside 0)) (outOfRange outside) in
+    let four : Applies = when (not (ltb 0 (total (n .volumes)))) noVolume in
+    let later : List Applies = two ∷ three ∷ four ∷ told ∷ standing ∷ [] in
+    let worked : postOutcome b s ≡ first (when (not (eqb (length s) (sizeOf (layoutOf s)))) wrongLength ∷ later) o =
+    read-first _ n
     (eqb (length s) (sizeOf (layoutOf s))) (eqb wrong 0) (eqb outside 0) (ltb 0 (total (n .volumes)))
     _ _ _ _ (told ∷ standing ∷ []) o
     (demand-first (leb (n .month) (b .told)) afterToldMonth _ (standing ∷ []) o
-    (demand-first (notBefore (b .standing) (n .month)) beforeStandingCurve o [] o refl)))
+    (demand-first (notBefore (b .standing) (n .month)) beforeStandingCurve o [] o refl)) in
+    rw (none-traded (total (n .volumes)), not-at-most (b .told) (n .month), before-standing (b .standing) (n .month))
+    (worked ∙ ap (λ (right : Bool). first (when (not right) wrongLength ∷ later) o) (either-length s))
 
 booked-refused : {A : Type 0} (b : Book) (changed : A → Book) (month : A → ℕ) (o : Outcome A) (g : Ground) →
     booked b changed month o .answer ≡ refused g → booked b changed month o .book ≡ b

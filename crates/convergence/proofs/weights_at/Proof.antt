@@ -1,11 +1,13 @@
 -- The table at exactly 10%, the worked ends at any other factor: either way the definition's pairs, which weigh.
-use mathlib.Core.Path.{_≡_, sym, _∙_}
+use mathlib.Core.Path.{_≡_, sym, ap, ap₂, _∙_}
 use mathlib.Core.Bool.{true, false}
+use Prim.Native.Nat.{ℕ, _*_, _-_, _/_}
 use lib.ListN.{length}
-use Rattle.fraction.specs.Rounding.{U}
+use Rattle.fraction.specs.Rounding.{U, ceilDiv}
 use Rattle.method.specs.Units.{pair, pairsOf}
 use Rattle.method.specs.Extrapolation.{decayPair, scalePair, weightsFrom, weights}
 use Rattle.method.proofs.Weights.{weights-tabled, weights-worked}
+use Rattle.convergence.specs.Weights.{endsFrom}
 use Rattle.convergence.proofs.Sides.{ends-are, weights-of}
 use Rattle.convergence.proofs.Working.{ends-length}
 use borrow.Author.Needs.{needs}
@@ -52,8 +54,12 @@ returns-2 c =
     let a = s .args .a in
     let low : at-low .decay-end .result ≡ decayPair a .low = at-low .decay-end .ensures .0 in
     let high : at-high .decay-end2 .result ≡ decayPair a .high = at-high .decay-end2 .ensures .0 in
-    let lows = rw (low, at-low-scale .scale-end .ensures .0, high) at (at-lows .ends .ensures) in
-    let highs = rw (high, at-high-scale .scale-end2 .ensures .0, low) at (c .ends2 .ensures) in
+    let m = scalePair a (decayPair a) in
+    let low-scale : at-low-scale .scale-end .result ≡ m .low = at-low-scale .scale-end .ensures .0 ∙ ap (λ (q : ℕ). (U - q) * 100_000_000 / a) high in
+    let high-scale : at-high-scale .scale-end2 .result ≡ m .high =
+    at-high-scale .scale-end2 .ensures .0 ∙ ap (λ (q : ℕ). ceilDiv ((U - q) * 100_000_000) a) low in
+    let lows = at-lows .ends .ensures ∙ ap₂ (λ (q m : ℕ). endsFrom false q m U 130) low low-scale in
+    let highs = c .ends2 .ensures ∙ ap₂ (λ (q m : ℕ). endsFrom true q m U 130) high high-scale in
     let worked : weights a 130 ≡ weightsFrom (decayPair a) (scalePair a (decayPair a)) (pair U U) 130 = weights-worked a 130 (at-low .before .if1 .left) in
     let is : pairsOf (at-lows .ends .result) (c .ends2 .result) ≡ weights a 130 =
     rw (lows, highs, worked) (ends-are (decayPair a) (scalePair a (decayPair a)) (pair U U) 130) in

@@ -1,9 +1,11 @@
 -- The 20-year rate is in its range, so its bits give it back.
+use mathlib.Core.Path.{subst⁻¹}
 use Prim.Native.Nat.{_≤_}
 use lib.IntN.{ℤ, pos}
 use lib.ListN.{getD}
 use lib.Signed.{mag}
 use mir.Syntax.{w64}
+use mir.Val.{SFits}
 use mir.ValLaws.{toZ-ofZ}
 use Rattle.method.specs.Curve.{factorOf}
 use Rattle.bootstrap.proofs.Order.{rate-fits, narrow-read}
@@ -22,7 +24,9 @@ module _ (s : tie.Start) where
   small = s .pre .rate-range 12 .small
 
 cast-factor : tie.Need-cast-factor
-cast-factor c = rw (narrow-read (rate (c .before)) (small (c .before))) (rate-fits (rate (c .before)) (small (c .before)))
+cast-factor c =
+    let s = c .before in
+    subst⁻¹ (SFits w64) (narrow-read (rate s) (small s)) (rate-fits (rate s) (small s))
 
 factor-requires : tie.Need-factor-requires
 factor-requires c κs = search needs

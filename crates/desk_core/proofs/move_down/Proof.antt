@@ -1,4 +1,5 @@
 -- The loop's invariant: the first i bytes are in place, those not yet read are as they were.
+use mathlib.Core.Path.{_≡_, refl}
 use Prim.Native.Nat.{_-_, _≤_}
 use native.Mathlib.Omega.{arith}
 use borrow.Author.Needs.{needs}
@@ -11,6 +12,13 @@ Inv-loop bytes₀ from to i₀ bytes i = (i ≤ to - from) × Moving bytes₀ fr
 
 abbrev μ-loop : tie.MeasureT-loop
 μ-loop bytes₀ from to i₀ bytes i = to - from - i
+
+-- none is to be moved
+returns : tie.Need-returns Inv-loop μ-loop
+returns c =
+    let s = c .before in
+    let none : s .args .from ≡ 0 = c .if1 .taken in
+    rw none (omega arith, refl)
 
 loop-holds : tie.Need-loop-holds Inv-loop μ-loop
 loop-holds c = (omega arith, begins _ _)
@@ -39,10 +47,10 @@ loop-again c = (omega arith, goes-on (c .before .before .loop .inv .1) (omega ar
 same-length : tie.Need-same-length Inv-loop μ-loop
 same-length c = c .before .loop .inv .1 .same-length
 
-returns : tie.Need-returns Inv-loop μ-loop
-returns c =
+returns-2 : tie.Need-returns-2 Inv-loop μ-loop
+returns-2 c =
     let at-loop = c .before in
-    (omega arith, ends (at-loop .loop .inv .1) (at-loop .before .args .to) (omega arith) (omega arith))
+    (omega arith, ends (at-loop .loop .inv .1) (at-loop .before .before .args .to) (omega arith) (omega arith))
 
 pub move-down-spec : {M : Type 1} → statement M
 move-down-spec =
@@ -50,6 +58,7 @@ move-down-spec =
     (tie.spec
     Inv-loop
     μ-loop
+    returns
     loop-holds
     sub-loop
     add-bytes
@@ -59,4 +68,4 @@ move-down-spec =
     loop-less
     loop-again
     same-length
-    returns)
+    returns-2)
