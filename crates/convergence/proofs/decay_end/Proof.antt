@@ -1,6 +1,8 @@
 -- The growth's other end, which is at least U.
-use mathlib.Core.Path.{_≡_}
+use mathlib.Core.Path.{_≡_, ap, _∙_}
+use Prim.Native.Nat.{_*_}
 use native.Mathlib.Omega.{arith}
+use Rattle.fraction.specs.Rounding.{U, roundℕ}
 use Rattle.method.specs.Units.{endOf}
 use Rattle.method.specs.Extrapolation.{decayPair}
 use Rattle.convergence.proofs.Sides.{decay-is, decay-most}
@@ -24,7 +26,7 @@ returns : tie.Need-returns
 returns c =
     let a = c .before .before .args in
     let is : c .quotient .result ≡ endOf (a .up) (decayPair (a .a)) =
-    rw (c .before .growth .ensures .0, decay-is (a .up) (a .a)) at (c .quotient .ensures) in
+    c .quotient .ensures ∙ ap (roundℕ (a .up) (U * U)) (c .before .growth .ensures .0) ∙ decay-is (a .up) (a .a) in
     (is, rw is (decay-most (a .up) (a .a)))
 
 pub decay-end-spec : {M : Type 1} → statement M

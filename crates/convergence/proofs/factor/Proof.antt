@@ -1,5 +1,5 @@
 -- 500 less the cut rate is a number from 0 to 1,000, which its bits give back.
-use mathlib.Core.Path.{_≡_, refl}
+use mathlib.Core.Path.{_≡_, refl, subst⁻¹}
 use Prim.Native.Nat.{ℕ, _+_, _*_, _-_, _≤_}
 use native.Mathlib.Nat.{mul-le-mul}
 use native.Mathlib.Omega.{arith}
@@ -7,6 +7,7 @@ use lib.IntN.{pos, _-ℤ_}
 use Rattle.method.specs.Extrapolation.{cut, convergenceFactor}
 use Rattle.method.proofs.Speed.{way, factor-by, factor-range}
 use mir.Syntax.{w64}
+use mir.Val.{SFits}
 use mir.ValLaws.{toZ-ofZ}
 use Rattle.rounding.proofs.Machine.{stored, stored-is, size-fits, returned}
 use borrow.Author.Needs.{needs}
@@ -39,7 +40,7 @@ cut-requires : tie.Need-cut-requires
 cut-requires c κs = search needs
 
 sub-result-2 : tie.Need-sub-result-2
-sub-result-2 c = rw (way-is c) (size-fits (pos (k c)) {M = 1_000} (way (c .before .args .r) .2) tt)
+sub-result-2 c = subst⁻¹ (SFits w64) (way-is c) (size-fits (pos (k c)) {M = 1_000} (way (c .before .args .r) .2) tt)
 
 cast-result : tie.Need-cast-result
 cast-result c = rw (way-read c) (tt, record { fits = omega (arith, way (c .before .args .r) .2) })
