@@ -1,8 +1,8 @@
 -- The cut rate by its cases; and κ's ends by their side: each is the definition's, in its range.
 use mathlib.Core.Path.{_≡_, refl, sym, ap}
-use mathlib.Core.Bool.{Bool, true, false, not, cond, false≢true}
+use mathlib.Core.Bool.{Bool, true, false, not, false≢true}
 use mathlib.Core.List.{List, [], _∷_, map, zipWith}
-use Prim.Native.Nat.{ℕ, zero, suc, _+_, _*_, _-_, _/_, _≤_, _<_}
+use Prim.Native.Nat.{ℕ, zero, suc, _+_, _*_, _-_, _≤_, _<_}
 use native.Mathlib.Nat.{le-refl, le-trans, mul-le-mul-left}
 use native.Mathlib.Omega.{arith}
 use borrow.Author.Tests.{le-leb, lt-leb}
@@ -10,15 +10,14 @@ use lib.IntN.{ℤ, pos, negsuc}
 use lib.ListN.{length, getD}
 use lib.Signed.{leZ}
 use Rattle.fraction.specs.Fraction.{natℚ, _÷_}
-use Rattle.fraction.specs.Rounding.{U, ceilDiv, roundℕ}
+use Rattle.fraction.specs.Rounding.{U, roundℕ}
 use Rattle.method.specs.Units.{Pair, pair, pairsOf, endOf}
-use Rattle.method.specs.Series.{growthLow}
 use Rattle.method.specs.Extrapolation.{cut, κPairs, scaled, decayPair, cutToUnit, weightsFrom, weights}
 use Rattle.method.specs.True.{convergence}
 use Rattle.method.proofs.Zips.{zip-at}
 use Rattle.method.proofs.Forward.{Weighs, weight-ordered}
 use Rattle.method.proofs.Weights.{weights-weigh}
-use Rattle.method.proofs.Quotients.{Below, down-below-up, up-below-up, ceilDiv-≤}
+use Rattle.method.proofs.Quotients.{down-below-up, ceilDiv-≤}
 use Rattle.method.proofs.Growth.{growthLow-≥, growthLow-≤-growthHigh}
 use Rattle.series.specs.Sides.{growthBy}
 use Rattle.convergence.specs.declared.Weights.{Weights}

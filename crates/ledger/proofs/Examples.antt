@@ -1,7 +1,7 @@
 -- A day of calls by computation: a wrong definition, or a wrong count, shows here in numbers. And the old box's answer of that day,
 -- February's curve under a March heading, is refused by demand 3 itself.
 use mathlib.Core.Path.{_≡_, refl, ap}
-use mathlib.Core.List.{List, [], _∷_, _++_}
+use mathlib.Core.List.{List, [], _∷_}
 use Prim.Native.Nat.{ℕ}
 use native.Mathlib.Omega.{arith}
 use lib.ListN.{replicate, take, drop}

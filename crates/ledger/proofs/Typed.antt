@@ -13,7 +13,7 @@ use lib.ListN.{length, take, drop}
 use lib.Seq.{drop-cons}
 use Rattle.method.specs.Bytes.{bigEndian}
 use Rattle.method.specs.Sheet.{Kind, rate, volume, ultimate, limit, phaseIn, bodyLength, maturities, volumeMaturities, Entry, entry, firstEntries}
-use Rattle.method.specs.Sheet.{Layout, layoutOf, entriesOf, sizeOf, slot, slotsFrom, slotsOf, twosComplement16, numberOfRecord, numbersOf, sheetNumbers}
+use Rattle.method.specs.Sheet.{Layout, layoutOf, entriesOf, sizeOf, slot, slotsFrom, slotsOf, twosComplement16, numberOfRecord, sheetNumbers}
 use Rattle.method.proofs.Outcome.{split}
 use Rattle.method.proofs.Layouts.{two-lengths}
 use Rattle.ledger.specs.Count.{byte2, byte4, monthOf, limitOf, rateAt, offsets, typed}

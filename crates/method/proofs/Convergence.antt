@@ -1,17 +1,16 @@
 -- k(h) of the true curve depends on the value of α alone, and it is at most 1: q = e^-α is at least 1 - α, because e^α is at most
 -- 1 + α + α^2 at every order, and (1 + α + α^2)(1 - α) is 1 - α^3.
-use mathlib.Core.Path.{_≡_}
 use mathlib.Core.List.{[], _∷_}
 use Prim.Native.Nat.{ℕ, zero, suc, _-_}
 use native.Mathlib.Omega.{arith}
-use Rattle.fraction.specs.Fraction.{ℚ, _≈_, _≤ℚ_, NonNegative, Positive, natℚ, negℚ, _+ℚ_, _-ℚ_, _*ℚ_, _÷_, recip, powℚ, sumℚ}
-use Rattle.fraction.proofs.Order.{≤ℚ-refl, ≤ℚ-trans, ≤ℚ-≈-trans, ≈-≤ℚ-trans, ≈-refl, ≈-sym, ≈-trans, ≈→≤, positive→nonNegative}
+use Rattle.fraction.specs.Fraction.{ℚ, _≈_, _≤ℚ_, NonNegative, Positive, natℚ, _+ℚ_, _-ℚ_, _*ℚ_, _÷_, recip, powℚ, sumℚ}
+use Rattle.fraction.proofs.Order.{≤ℚ-refl, ≤ℚ-trans, ≤ℚ-≈-trans, ≈-≤ℚ-trans, ≈-refl, ≈-trans, ≈→≤, positive→nonNegative}
 use Rattle.fraction.proofs.Decide.{computes, leℚ→≤}
 use Rattle.fraction.proofs.Sum.{+ℚ-cong, +ℚ-mono-left, negℚ-cong, ≤→difference, ≤-+ℚ-right}
-use Rattle.fraction.proofs.Product.{*ℚ-cong, *ℚ-cong-left, *ℚ-cong-right, *ℚ-one, *ℚ-comm, *ℚ-mono, *ℚ-mono-left, *ℚ-mono-right, *ℚ-nonNegative}
-use Rattle.fraction.proofs.Product.{*ℚ-cancel-≤-left, one-*ℚ}
-use Rattle.fraction.proofs.Quotient.{*ℚ-recip, recip-cong, recip-anti, recip-nonNegative, recip-positive}
-use Rattle.fraction.proofs.Power.{powℚ-cong, powℚ-nonNegative, powℚ-falls}
+use Rattle.fraction.proofs.Product.{*ℚ-cong, *ℚ-cong-right, *ℚ-one, *ℚ-mono, *ℚ-mono-left, *ℚ-mono-right, *ℚ-nonNegative}
+use Rattle.fraction.proofs.Product.{*ℚ-cancel-≤-left}
+use Rattle.fraction.proofs.Quotient.{*ℚ-recip, recip-cong, recip-anti, recip-nonNegative}
+use Rattle.fraction.proofs.Power.{powℚ-cong, powℚ-falls}
 use Rattle.fraction.proofs.Integer.{natℚ-nonNegative, natℚ-positive}
 use Rattle.fraction.proofs.Ring.{var, con, ⊖, _⊕_, _⊗_}
 use Rattle.fraction.proofs.RingFraction.{ringℚ}

@@ -16,7 +16,7 @@ use Rattle.fraction.proofs.Integer.{intℚ-mono, natℚ-mono, natℚ-positive}
 use Rattle.fraction.proofs.Quotient.{÷-*ℚ}
 use Rattle.fraction.proofs.Rounding.{U-positive}
 use Rattle.fraction.proofs.Enclosure.{encloses-ordered, encloses-≈, encloses-÷-nat, encloses-ratio, encloses-scaled, nat-encloses}
-use Rattle.method.specs.Units.{Pair, pair, SignedPair}
+use Rattle.method.specs.Units.{Pair, SignedPair}
 use Rattle.method.specs.Grounds.{highAboveLimit, Outcome, refused, done, _>>=_}
 use Rattle.method.specs.Quotes.{highestFactor}
 use Rattle.method.specs.Series.{growthSum, growth, growthLow, growthHigh}

@@ -1,17 +1,18 @@
 -- Rounded quotients as the series take them: what they enclose, and that they grow with what is divided.
 use mathlib.Core.List.{[], _∷_}
-use Prim.Native.Nat.{ℕ, zero, suc, _*_, _/_, _≤_, _<_}
+use mathlib.Core.Path.{_≡_}
+use Prim.Native.Nat.{ℕ, zero, suc, _+_, _*_, _-_, _/_, _≤_, _<_}
 use native.Mathlib.Nat.{mul-pos, zero-lt-suc, div-zero, le-div-iff-mul-le, div-lt-iff-lt-mul, div-mul-le-self, le-trans}
 use native.Mathlib.Omega.{arith}
 use lib.IntN.{pos}
-use Rattle.fraction.specs.Fraction.{ℚ, _≈_, _≤ℚ_, natℚ, _÷_, recip}
+use Rattle.fraction.specs.Fraction.{ℚ, _≈_, _≤ℚ_, natℚ, _+ℚ_, _-ℚ_, _*ℚ_, _÷_, recip}
 use Rattle.fraction.specs.Rounding.{ceilDiv, Encloses}
-use Rattle.fraction.proofs.Order.{≤ℚ-refl, ≤ℚ-≈-trans, ≈-≤ℚ-trans, ≈-sym, ≈-trans}
-use Rattle.fraction.proofs.Product.{*ℚ-comm, *ℚ-assoc, *ℚ-cong-left, *ℚ-cong-right}
-use Rattle.fraction.proofs.Quotient.{÷-*ℚ, ÷-unique, ≤-÷, ÷-≤}
-use Rattle.fraction.proofs.Integer.{natℚ-positive, natℚ-mono, natℚ-*}
+use Rattle.fraction.proofs.Order.{≤ℚ-refl, ≤ℚ-antisym, ≤ℚ-≈-trans, ≈-≤ℚ-trans, ≈-sym, ≈-trans}
+use Rattle.fraction.proofs.Product.{*ℚ-comm, *ℚ-assoc, *ℚ-cong, *ℚ-cong-left, *ℚ-cong-right, *ℚ-one}
+use Rattle.fraction.proofs.Quotient.{*ℚ-recip, ÷-*ℚ, ÷-unique, ÷-cong-left, ≤-÷, ÷-≤}
+use Rattle.fraction.proofs.Integer.{natℚ-positive, natℚ-mono, natℚ-+, natℚ-*, natℚ-∸}
 use Rattle.fraction.proofs.Enclosure.{nat-encloses}
-use Rattle.fraction.proofs.Ring.{var, _⊗_}
+use Rattle.fraction.proofs.Ring.{var, ⊖, _⊕_, _⊗_}
 use Rattle.fraction.proofs.RingFraction.{ringℚ}
 
 pub nat-exact : (a : ℕ) → Encloses (pos a) (pos a) (natℚ a)
@@ -33,6 +34,33 @@ ratio-≤ a c {b} {d} h k l =
     (≤ℚ-≈-trans
     (≤-÷ (natℚ-positive k) (≈-≤ℚ-trans (≈-sym (natℚ-* a d)) (≤ℚ-≈-trans (natℚ-mono l) (natℚ-* c b))))
     (ringℚ (natℚ c ∷ natℚ b ∷ recip (natℚ d) ∷ []) ((var 0 ⊗ var 1) ⊗ var 2) ((var 0 ⊗ var 2) ⊗ var 1) tt))
+
+pub same-ratio : (a c : ℕ) {b d : ℕ} → 0 < b → 0 < d → a * d ≡ c * b → natℚ a ÷ natℚ b ≈ natℚ c ÷ natℚ d
+same-ratio a c h k e = ≤ℚ-antisym (ratio-≤ a c h k (omega arith)) (ratio-≤ c a k h (omega arith))
+
+pub ratio-+ : (a b d : ℕ) → natℚ a ÷ natℚ d +ℚ natℚ b ÷ natℚ d ≈ natℚ (a + b) ÷ natℚ d
+ratio-+ a b d =
+    ≈-trans (ringℚ (natℚ a ∷ natℚ b ∷ recip (natℚ d) ∷ []) (var 0 ⊗ var 2 ⊕ var 1 ⊗ var 2) ((var 0 ⊕ var 1) ⊗ var 2) tt)
+    (÷-cong-left (natℚ d) (≈-sym (natℚ-+ a b)))
+
+pub ratio-- : (a b d : ℕ) → b ≤ a → natℚ a ÷ natℚ d -ℚ natℚ b ÷ natℚ d ≈ natℚ (a - b) ÷ natℚ d
+ratio-- a b d h =
+    ≈-trans (ringℚ (natℚ a ∷ natℚ b ∷ recip (natℚ d) ∷ []) (var 0 ⊗ var 2 ⊕ ⊖ (var 1 ⊗ var 2)) ((var 0 ⊕ ⊖ (var 1)) ⊗ var 2) tt)
+    (÷-cong-left (natℚ d) (≈-sym (natℚ-∸ h)))
+
+pub ratio-* : (a c : ℕ) {b d : ℕ} → 0 < b → 0 < d → (natℚ a ÷ natℚ b) *ℚ (natℚ c ÷ natℚ d) ≈ natℚ (a * c) ÷ natℚ (b * d)
+ratio-* a c {b} {d} h k =
+    let lhs : ℚ = (natℚ a ÷ natℚ b) *ℚ (natℚ c ÷ natℚ d) in
+    ÷-unique (natℚ-positive (mul-pos h k))
+    (≈-trans (*ℚ-cong-right lhs (natℚ-* b d))
+    (≈-trans
+    (ringℚ (natℚ a ∷ natℚ b ∷ recip (natℚ b) ∷ natℚ c ∷ natℚ d ∷ recip (natℚ d) ∷ [])
+    (((var 0 ⊗ var 2) ⊗ (var 3 ⊗ var 5)) ⊗ (var 1 ⊗ var 4))
+    ((var 0 ⊗ var 3) ⊗ ((var 1 ⊗ var 2) ⊗ (var 4 ⊗ var 5)))
+    tt)
+    (≈-trans
+    (*ℚ-cong (≈-sym (natℚ-* a c)) (≈-trans (*ℚ-cong (*ℚ-recip (natℚ-positive h)) (*ℚ-recip (natℚ-positive k))) (*ℚ-one (natℚ 1))))
+    (*ℚ-one (natℚ (a * c))))))
 
 pub ceilDiv-≤ : {a m d : ℕ} → 0 < d → a ≤ m * d → ceilDiv a d ≤ m
 ceilDiv-≤ {a} {m} {d} h l =

@@ -1,28 +1,27 @@
 -- The sheet's factor a, worked from the cut rate, is the phase-in paper's α in hundred-millionths: ten percent, X, or linear between.
 use mathlib.Core.Path.{_≡_, refl, ap, sym, _∙_}
-use mathlib.Core.Bool.{Bool, true, false, cond}
-use mathlib.Core.List.{[], _∷_}
+use mathlib.Core.Bool.{Bool, cond}
+use mathlib.Core.List.{[]}
 use Prim.Native.Nat.{ℕ, zero, suc, _+_, _*_, _-_, _≤_, _<_}
-use native.Mathlib.Nat.{mul-le-mul, mul-pos, zero-mul, mul-zero, mul-assoc}
+use native.Mathlib.Nat.{mul-le-mul, zero-mul, mul-zero, mul-assoc}
 use native.Mathlib.Decide.{decLe}
 use native.Mathlib.Omega.{arith}
-use borrow.Author.Tests.{le-leb, lt-leb, le-ltb, lt-ltb}
-use lib.Dec.{T, leb, ltb, lit<}
-use lib.IntN.{ℤ, pos, negsuc, natAbs, subℕ, _-ℤ_}
+use borrow.Author.Tests.{le-leb, lt-leb, le-ltb}
+use lib.Dec.{lit<}
+use lib.IntN.{ℤ, pos, negsuc, natAbs, _-ℤ_}
 use Rattle.fraction.specs.Fraction.{ℚ, _≈_, _≤ℚ_, _<ℚ_, NonNegative, leℚ, natℚ, intℚ, negℚ, _+ℚ_, _-ℚ_, _*ℚ_, _÷_, recip}
 use Rattle.fraction.proofs.Order.{≤ℚ-trans, ≤ℚ-≈-trans, ≈-≤ℚ-trans, ≈-refl, ≈-sym, ≈-trans, ≈→≤, ≈→≥, <ℚ-not-≤ℚ, <ℚ-≤ℚ-trans}
 use Rattle.fraction.proofs.Order.{≤ℚ-<ℚ-trans, nonNegative→≤, nonPositive→≤, neg-nonNegative, nonNegative-up}
 use Rattle.fraction.proofs.Decide.{computes, leℚ→≤, ≤→leℚ, ltℚ→<, eqℚ→≈}
 use Rattle.fraction.proofs.Sum.{+ℚ-cong, negℚ-cong, negℚ-anti, negℚ-strict, negℚ-negℚ}
-use Rattle.fraction.proofs.Product.{*ℚ-cong, *ℚ-cong-right, *ℚ-one, negℚ-*ℚ}
-use Rattle.fraction.proofs.Quotient.{*ℚ-recip, ÷-unique, ÷-mono-left, ÷-cong-left, ÷-strict-left, ÷-nonNegative}
-use Rattle.fraction.proofs.Integer.{natℚ-nonNegative, natℚ-positive, natℚ-mono, natℚ-strict, natℚ-+, natℚ-*, natℚ-∸, intℚ-pos, intℚ-neg}
-use Rattle.fraction.proofs.Ring.{var, ⊖, _⊕_, _⊗_}
-use Rattle.fraction.proofs.RingFraction.{ringℚ}
+use Rattle.fraction.proofs.Product.{*ℚ-cong, negℚ-*ℚ}
+use Rattle.fraction.proofs.Quotient.{÷-mono-left, ÷-cong-left, ÷-strict-left, ÷-nonNegative}
+use Rattle.fraction.proofs.Integer.{natℚ-nonNegative, natℚ-positive, natℚ-mono, natℚ-strict, intℚ-pos, intℚ-neg}
 use Rattle.method.specs.Extrapolation.{cut, convergenceFactor}
 use Rattle.method.specs.True.{speed}
+use Rattle.method.proofs.Quotients.{same-ratio, ratio-+, ratio--, ratio-*}
 use Rattle.method.proofs.Step.{cond-true, cond-false}
-use Rattle.method.proofs.Weights.{hundredMillionths, same-ratio}
+use Rattle.method.proofs.Weights.{hundredMillionths}
 
 -- ---- how far the cut rate is below 500
 
@@ -80,32 +79,6 @@ unfolding convergenceFactor
 factor-high x m h =
     let none : 500 - m ≡ 0 = omega arith in
     rw (way-up m, none) (omega (arith, mul-zero (x - 10_000)))
-
--- ---- ratios of natural numbers
-
-ratio-+ : (a b d : ℕ) → natℚ a ÷ natℚ d +ℚ natℚ b ÷ natℚ d ≈ natℚ (a + b) ÷ natℚ d
-ratio-+ a b d =
-    ≈-trans (ringℚ (natℚ a ∷ natℚ b ∷ recip (natℚ d) ∷ []) (var 0 ⊗ var 2 ⊕ var 1 ⊗ var 2) ((var 0 ⊕ var 1) ⊗ var 2) tt)
-    (÷-cong-left (natℚ d) (≈-sym (natℚ-+ a b)))
-
-ratio-- : (a b d : ℕ) → b ≤ a → natℚ a ÷ natℚ d -ℚ natℚ b ÷ natℚ d ≈ natℚ (a - b) ÷ natℚ d
-ratio-- a b d h =
-    ≈-trans (ringℚ (natℚ a ∷ natℚ b ∷ recip (natℚ d) ∷ []) (var 0 ⊗ var 2 ⊕ ⊖ (var 1 ⊗ var 2)) ((var 0 ⊕ ⊖ (var 1)) ⊗ var 2) tt)
-    (÷-cong-left (natℚ d) (≈-sym (natℚ-∸ h)))
-
-ratio-* : (a c : ℕ) {b d : ℕ} → 0 < b → 0 < d → (natℚ a ÷ natℚ b) *ℚ (natℚ c ÷ natℚ d) ≈ natℚ (a * c) ÷ natℚ (b * d)
-ratio-* a c {b} {d} h k =
-    let lhs : ℚ = (natℚ a ÷ natℚ b) *ℚ (natℚ c ÷ natℚ d) in
-    ÷-unique (natℚ-positive (mul-pos h k))
-    (≈-trans (*ℚ-cong-right lhs (natℚ-* b d))
-    (≈-trans
-    (ringℚ (natℚ a ∷ natℚ b ∷ recip (natℚ b) ∷ natℚ c ∷ natℚ d ∷ recip (natℚ d) ∷ [])
-    (((var 0 ⊗ var 2) ⊗ (var 3 ⊗ var 5)) ⊗ (var 1 ⊗ var 4))
-    ((var 0 ⊗ var 3) ⊗ ((var 1 ⊗ var 2) ⊗ (var 4 ⊗ var 5)))
-    tt)
-    (≈-trans
-    (*ℚ-cong (≈-sym (natℚ-* a c)) (≈-trans (*ℚ-cong (*ℚ-recip (natℚ-positive h)) (*ℚ-recip (natℚ-positive k))) (*ℚ-one (natℚ 1))))
-    (*ℚ-one (natℚ (a * c))))))
 
 -- ---- the bullets
 
@@ -178,23 +151,24 @@ from-half {m} h = ≈-≤ℚ-trans half-is (≤ℚ-≈-trans (quoted-≤ h) (≈
 to-half : {m : ℕ} → m < 500 → rate (pos m) <ℚ half
 to-half {m} h = ≤ℚ-<ℚ-trans (≈→≤ (rate-pos m)) (<ℚ-≤ℚ-trans (quoted-< h) (≈→≥ half-is))
 
+quoted-nonNegative : (a : ℕ) → NonNegative (quoted a)
+quoted-nonNegative a = ÷-nonNegative (natℚ 100_000) (natℚ-nonNegative a)
+
+above-0 : natℚ 0 <ℚ half
+unfolding computes
+above-0 = ltℚ→< tt
+
 minus-half : negℚ half <ℚ natℚ 0
 unfolding computes
 minus-half = ltℚ→< tt
 
 above-minus : (m : ℕ) → negℚ half <ℚ rate (pos m)
-above-minus m = <ℚ-≤ℚ-trans minus-half (nonNegative→≤ (nonNegative-up (÷-nonNegative (natℚ 100_000) (natℚ-nonNegative m)) (≈→≥ (rate-pos m))))
+above-minus m = <ℚ-≤ℚ-trans minus-half (nonNegative→≤ (nonNegative-up (quoted-nonNegative m) (≈→≥ (rate-pos m))))
 
 negative : (m : ℕ) → rate (negsuc m) <ℚ half
 negative m =
-    ≤ℚ-<ℚ-trans (≈→≤ (rate-negsuc m))
-    (<ℚ-≤ℚ-trans (negℚ-strict (quoted-< {a = 0} {b = suc m} (omega arith))) (≤ℚ-trans (nonPositive→≤ (neg-nonNegative (natℚ-quoted 0))) (nonNegative→≤ (natℚ-half))))
-  where
-    natℚ-quoted : (a : ℕ) → NonNegative (quoted a)
-    natℚ-quoted a = ÷-nonNegative (natℚ 100_000) (natℚ-nonNegative a)
-
-    natℚ-half : NonNegative half
-    natℚ-half = ÷-nonNegative (natℚ 200) (natℚ-nonNegative 1)
+    let below-0 = ≤ℚ-trans (≈→≤ (rate-negsuc m)) (nonPositive→≤ (neg-nonNegative (quoted-nonNegative (suc m)))) in
+    ≤ℚ-<ℚ-trans below-0 above-0
 
 to-minus : {m : ℕ} → 499 ≤ m → rate (negsuc m) ≤ℚ negℚ half
 to-minus {m} h = ≈-≤ℚ-trans (rate-negsuc m) (negℚ-anti (≈-≤ℚ-trans half-is (quoted-≤ (omega arith))))

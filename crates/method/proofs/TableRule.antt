@@ -1,6 +1,6 @@
 -- The rule of the table K, at every order: K(h) is the whole part of U × k(h). One computed test goes over all entries; the
 -- test and the lemma that slots it into the rule hold for any list and any ends of q.
-use mathlib.Core.Path.{_≡_, refl, ap}
+use mathlib.Core.Path.{_≡_, refl}
 use mathlib.Core.Bool.{Bool, true, _&&_, and-eq-true-iff}
 use mathlib.Core.List.{List, [], _∷_}
 use Prim.Native.Nat.{ℕ, zero, suc, _+_, _*_, _-_, _^_, _≤_, _<_}

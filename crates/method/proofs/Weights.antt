@@ -4,20 +4,20 @@ use mathlib.Core.Path.{_≡_, refl, ap, _∙_}
 use mathlib.Core.Bool.{Bool, true, false, cond}
 use mathlib.Core.List.{List, [], _∷_}
 use Prim.Native.Nat.{ℕ, zero, suc, _+_, _*_, _-_, _/_, _≤_, _<_}
-use native.Mathlib.Nat.{zero-lt-suc, add-zero, le-of-suc-le-suc, not-suc-le-zero, mul-le-mul-left, le-refl, lt-of-lt-of-le}
+use native.Mathlib.Nat.{le-of-suc-le-suc, not-suc-le-zero, mul-le-mul-left, le-refl, lt-of-lt-of-le}
 use native.Mathlib.Omega.{arith}
 use borrow.Author.Tests.{eqb-true, ne-eqb, leb-true}
-use lib.Dec.{eqb, leb, lit<, lit≤}
+use lib.Dec.{eqb, leb, lit<}
 use lib.IntN.{pos}
 use lib.ListN.{length, getD, take, length-map, length-take}
 use lib.Seq.{length-take-le, getD-take, take-all}
-use Rattle.fraction.specs.Fraction.{ℚ, _≈_, _≤ℚ_, NonNegative, Positive, natℚ, _-ℚ_, _*ℚ_, _÷_, recip, powℚ}
-use Rattle.fraction.specs.Rounding.{U, ceilDiv, Encloses}
-use Rattle.fraction.proofs.Order.{≤ℚ-trans, ≤ℚ-≈-trans, ≤ℚ-antisym, ≈-refl, ≈-sym, ≈-trans, <ℚ→≤ℚ, positive→nonNegative}
+use Rattle.fraction.specs.Fraction.{ℚ, _≈_, _≤ℚ_, Positive, natℚ, _-ℚ_, _*ℚ_, _÷_, recip, powℚ}
+use Rattle.fraction.specs.Rounding.{U, Encloses}
+use Rattle.fraction.proofs.Order.{≤ℚ-≈-trans, ≈-sym, ≈-trans, <ℚ→≤ℚ, positive→nonNegative}
 use Rattle.fraction.proofs.Product.{*ℚ-cong, *ℚ-cong-left, *ℚ-cong-right, *ℚ-one, one-*ℚ, *ℚ-mono-right}
 use Rattle.fraction.proofs.Quotient.{*ℚ-recip, ÷-unique, ÷-positive}
 use Rattle.fraction.proofs.Integer.{natℚ-nonNegative, natℚ-positive}
-use Rattle.fraction.proofs.Ring.{var, con, _⊗_}
+use Rattle.fraction.proofs.Ring.{var, _⊗_}
 use Rattle.fraction.proofs.RingFraction.{ringℚ}
 use Rattle.fraction.proofs.Rounding.{U-positive}
 use Rattle.fraction.proofs.Enclosure.{encloses-≈, encloses-÷-nat, encloses-product, encloses-scaled, encloses-ratio, nat-encloses, nat-below, nat-above}
@@ -27,7 +27,7 @@ use Rattle.method.specs.Table.{table}
 use Rattle.method.specs.Extrapolation.{κPairs, scaled, decayPair, scalePair, cutToUnit, weightsFrom, weights}
 use Rattle.method.specs.True.{billion, expSum, decay, convergence}
 use Rattle.method.proofs.Outcome.{split}
-use Rattle.method.proofs.Quotients.{nat-exact, ratio-≤, ceilDiv-≤}
+use Rattle.method.proofs.Quotients.{nat-exact, ratio-≤, same-ratio, ceilDiv-≤}
 use Rattle.method.proofs.Growth.{expSum-cong, expSum-positive, growth-encloses, growthLow-≥, growthLow-≤-growthHigh}
 use Rattle.method.proofs.Forward.{Weighs, κPairs-weigh}
 use Rattle.method.proofs.Step.{ratio-is}
@@ -40,9 +40,6 @@ hundredMillionths a = natℚ a ÷ natℚ 100_000_000
 
 abbrev Holds : Pair → ℚ → Type 0
 Holds p x = Encloses (pos (p .low)) (pos (p .high)) (billion *ℚ x)
-
-pub same-ratio : (a c : ℕ) {b d : ℕ} → 0 < b → 0 < d → a * d ≡ c * b → natℚ a ÷ natℚ b ≈ natℚ c ÷ natℚ d
-same-ratio a c h k e = ≤ℚ-antisym (ratio-≤ a c h k (omega arith)) (ratio-≤ c a k h (omega arith))
 
 pub weighs-cong : {κ : Pair} {x y : ℚ} → x ≈ y → Weighs κ x → Weighs κ y
 weighs-cong e w = record { at-most-U = w .at-most-U; weight = encloses-≈ (*ℚ-cong-right billion e) (w .weight) }

@@ -1,5 +1,4 @@
 -- By the side, then by the test.
-use mathlib.Core.Path.{refl}
 use Rattle.convergence.proofs.Sides.{low-kept, high-kept, high-cut}
 use Rattle.convergence.proofs.cut_end.Statement.{statement}
 use Rattle.convergence.proofs.cut_end.Tie as tie

@@ -1,7 +1,6 @@
 -- The growth's other end, which is at least U.
 use mathlib.Core.Path.{_≡_, ap, _∙_}
 use Prim.Native.Nat.{_*_}
-use native.Mathlib.Omega.{arith}
 use Rattle.fraction.specs.Rounding.{U, roundℕ}
 use Rattle.method.specs.Units.{endOf}
 use Rattle.method.specs.Extrapolation.{decayPair}

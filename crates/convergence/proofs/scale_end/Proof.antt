@@ -1,6 +1,5 @@
 -- U - q is at most U, and a at least a tenth of the one that multiplies it.
 use mathlib.Core.Path.{refl}
-use native.Mathlib.Omega.{arith}
 use Rattle.convergence.proofs.Sides.{scale-most}
 use borrow.Author.Needs.{needs}
 use Rattle.convergence.proofs.scale_end.Statement.{statement}

@@ -2,7 +2,7 @@
 use mathlib.Core.Path.{_≡_, ap, _∙_}
 use Prim.Native.Nat.{ℕ}
 use lib.ListN.{length}
-use Rattle.method.specs.Units.{Pair, pairsOf}
+use Rattle.method.specs.Units.{pairsOf}
 use Rattle.method.specs.Extrapolation.{weights}
 use Rattle.method.specs.Curve.{factorOf}
 use Rattle.method.proofs.Enclosure as method
