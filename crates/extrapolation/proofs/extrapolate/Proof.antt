@@ -43,7 +43,9 @@ loop-holds : tie.Need-loop-holds Inv-loop μ-loop
 loop-holds c =
     let s = c .before .before .before .before in
     let a = s .args in
-    (at-start (asSignedPair (a .l)) (asSignedPair (a .f)) (now (a .klows)) (now (a .khighs)) (a .start) (a .years) (search needs) (search needs) (s .pre .3), refl)
+    let lows : length (a .years .lows) ≡ 150 = search needs in
+    let highs : length (a .years .highs) ≡ 150 = search needs in
+    (at-start (asSignedPair (a .l)) (asSignedPair (a .f)) (now (a .klows)) (now (a .khighs)) (a .start) (a .years) lows highs (s .pre .3), refl)
 
 mul-t25 : tie.Need-mul-t25 Inv-loop μ-loop
 mul-t25 c = search needs
