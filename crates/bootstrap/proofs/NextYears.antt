@@ -14,7 +14,8 @@ use Rattle.method.specs.Units.{Pair, pair}
 use Rattle.method.specs.Grounds.{Outcome, refused, done, _>>=_}
 use Rattle.method.specs.Quotes.{Bootstrap, annuity, parLow, parHigh, nextYear, quotedYear}
 use Rattle.method.proofs.TrialLaws.{down-up}
-use Rattle.method.proofs.QuotesLaws.{Joined, bind-assoc, inside-none, inside-more, quoted-next, next-done}
+use Rattle.method.proofs.QuotesLaws.{Joined, inside-none, inside-more, quoted-next, next-done}
+use Rattle.method.proofs.Outcome.{bind-assoc}
 use Rattle.method.proofs.QuotesBounds.{par-ordered}
 use Rattle.grounds.specs.declared.Verdict.{Verdict}
 use Rattle.grounds.specs.declared.Ground.{Ground}

@@ -18,8 +18,8 @@ use Rattle.method.proofs.Zips.{zip-at}
 use Rattle.method.proofs.Forward.{Weighs, weight-ordered}
 use Rattle.method.proofs.Weights.{weights-weigh}
 use Rattle.method.proofs.Quotients.{down-below-up, ceilDiv-≤}
-use Rattle.method.proofs.Growth.{growthLow-≥, growthLow-≤-growthHigh}
 use Rattle.series.specs.Sides.{growthBy}
+use Rattle.series.proofs.Exponential.{growth-least}
 use Rattle.convergence.specs.declared.Weights.{Weights}
 use Rattle.convergence.specs.Weights.{Factor, cutEnd, endsFrom, Weight, WeightsOf}
 
@@ -55,13 +55,9 @@ unfolding decayPair
 decay-is true a = refl
 decay-is false a = refl
 
-growth-≥ : (up : Bool) (y : ℕ) → U ≤ growthBy up y
-growth-≥ true y = omega (arith, growthLow-≥ y, growthLow-≤-growthHigh y)
-growth-≥ false y = growthLow-≥ y
-
 pub decay-most : (up : Bool) (a : ℕ) → endOf up (decayPair a) ≤ U
 decay-most up a =
-    let divisor = growth-≥ (not up) (10 * a) in
+    let divisor = growth-least (not up) (10 * a) in
     rw (← decay-is up a) (round-≤ up (omega arith) (mul-le-mul-left U divisor))
 
 -- ---- an end cut to U

@@ -15,11 +15,8 @@ use Rattle.fraction.proofs.Integer.{natℚ-nonNegative, natℚ-positive}
 use Rattle.fraction.proofs.Ring.{var, con, ⊖, _⊕_, _⊗_}
 use Rattle.fraction.proofs.RingFraction.{ringℚ}
 use Rattle.method.specs.True.{factorial, expSum, decay, convergence}
+use Rattle.method.proofs.Step.{recip-one}
 use Rattle.method.proofs.Growth.{expTerm, expSum-cong, expSum-≤, expSum-≥-1, expSum-positive}
-
-recip-1 : recip (natℚ 1) ≈ natℚ 1
-unfolding computes
-recip-1 = omega arith
 
 twice-half : natℚ 2 *ℚ recip (natℚ 2) ≈ natℚ 1
 twice-half = *ℚ-recip (natℚ-positive (omega arith))
@@ -36,7 +33,7 @@ three-terms y =
     ((con 1 ⊕ var 0) ⊗ var 1 ⊕ (var 0 ⊗ var 0) ⊗ (con 2 ⊗ var 2))
     tt)
     (+ℚ-cong
-    (≈-trans (*ℚ-cong-right (natℚ 1 +ℚ y) recip-1) (*ℚ-one (natℚ 1 +ℚ y)))
+    (≈-trans (*ℚ-cong-right (natℚ 1 +ℚ y) recip-one) (*ℚ-one (natℚ 1 +ℚ y)))
     (≈-trans (*ℚ-cong-right (y *ℚ y) twice-half) (*ℚ-one (y *ℚ y))))
 
 -- ---- by the value of α
@@ -94,7 +91,7 @@ module _ (n : ℕ) {α : ℚ} (p : Positive α) (h : α ≤ℚ fifth) where
 
   pub decay-≤-1 : decay n α ≤ℚ natℚ 1
   unfolding decay
-  decay-≤-1 = ≤ℚ-trans (recip-anti (natℚ-positive (omega arith)) (expSum-≥-1 n some)) (≈→≤ recip-1)
+  decay-≤-1 = ≤ℚ-trans (recip-anti (natℚ-positive (omega arith)) (expSum-≥-1 n some)) (≈→≤ recip-one)
 
   -- 1 - q is at most α: times E it is E - 1, and E (1 - α) is at most 1
   rest-most : natℚ 1 -ℚ decay n α ≤ℚ α

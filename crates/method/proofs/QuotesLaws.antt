@@ -16,7 +16,7 @@ use Rattle.method.specs.Sheet.{total}
 use Rattle.method.specs.Quotes.{annuity, trial, surelyNotAbove, surelyNotBelow, lowX, highX, lowerEnd, upperEnd}
 use Rattle.method.specs.Quotes.{highestFactor, parLow, parHigh, nextYear, quotedYear, insideYears, Bootstrap, lastYear}
 use Rattle.method.specs.Quotes.{gapAfter, gapYears, Quote, parYear, yearsTo, bootstrapFrom, quotesOf, bootstrap}
-use Rattle.method.proofs.Outcome.{done-injective, bind-done, demand-done}
+use Rattle.method.proofs.Outcome.{done-injective, bind-done, bind-assoc, demand-done}
 
 -- ---- a year more: A and the last year
 
@@ -49,12 +49,6 @@ unfolding lastYear
 lastYear-more [] p = refl
 lastYear-more (q ∷ []) p = refl
 lastYear-more (q ∷ r ∷ ps) p = lastYear-more (r ∷ ps) p
-
--- ---- outcomes in order
-
-pub bind-assoc : {A B C : Type 0} (o : Outcome A) (f : A → Outcome B) (g : B → Outcome C) → ((o >>= f) >>= g) ≡ (o >>= λ a. f a >>= g)
-bind-assoc (refused e) f g = refl
-bind-assoc (done a) f g = refl
 
 -- ---- the next year, judged
 

@@ -64,7 +64,7 @@ pub exp-negative : (n : ℕ) {y : ℚ} → y <ℚ natℚ 0 → exp n y ≡ recip
 unfolding exp
 exp-negative n {y} h = cond-false (leℚ (natℚ 0) y) _ _ (λ t. <ℚ-not-≤ℚ h (leℚ→≤ t))
 
-recip-one : recip (natℚ 1) ≈ natℚ 1
+pub recip-one : recip (natℚ 1) ≈ natℚ 1
 recip-one = ≈-trans (≈-sym (one-*ℚ _)) (*ℚ-recip (natℚ-positive (omega arith)))
 
 negated : {y : ℚ} → y <ℚ natℚ 0 → NonNegative (negℚ y)

@@ -12,7 +12,7 @@ use Rattle.method.proofs.SeriesBounds.{t-≤}
 use Rattle.series.specs.Sides.{growthBy}
 use Rattle.series.proofs.Logarithm.{side-below}
 
-growth-least : (up : Bool) (y : ℕ) → U ≤ growthBy up y
+pub growth-least : (up : Bool) (y : ℕ) → U ≤ growthBy up y
 growth-least true y = le-trans (growthLow-≥ y) (growthLow-≤-growthHigh y)
 growth-least false y = growthLow-≥ y
 
