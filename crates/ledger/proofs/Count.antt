@@ -1,4 +1,4 @@
--- The book that a count stands for, and that each call moves both alike.
+-- The book that a count stands for, with any age limit, and that each call moves both alike.
 use mathlib.Core.Path.{_≡_, refl, ap, sym, subst, _∙_}
 use mathlib.Core.Bool.{Bool, true, false, _&&_}
 use mathlib.Core.List.{List, [], _∷_}
@@ -48,11 +48,11 @@ abbrev pub standingOf : LastSheet → Standing
 standingOf unposted = none
 standingOf (posted s) = standingIn (answer s)
 
-abbrev pub bookWith : ℕ → LastSheet → Book
-bookWith told h = record { told = told; standing = standingOf h }
+abbrev pub bookWith : ℕ → ℕ → LastSheet → Book
+bookWith limit told h = record { ageLimit = limit; told = told; standing = standingOf h }
 
-abbrev pub bookOf : Count → Book
-bookOf c = bookWith (c .told) (c .sheet)
+abbrev pub bookOf : ℕ → Count → Book
+bookOf limit c = bookWith limit (c .told) (c .sheet)
 
 -- the last sheet works, and its month is not after the told one, which is a month that can be told
 abbrev pub Sound : ℕ → LastSheet → Type 0
@@ -127,11 +127,11 @@ in-order told unposted g m = refl
 in-order told (posted s) g m = let a = works-done s (g .0) in rw (a .1, answer-month s (a .1))
 
 -- the count accepts exactly what the book accepts
-pub accepts-post : (c : Count) → SoundCount c → (s : List ℕ) → acceptsSheet c s ≡ isDone (postOutcome (bookOf c) s)
+pub accepts-post : (limit : ℕ) (c : Count) → SoundCount c → (s : List ℕ) → acceptsSheet c s ≡ isDone (postOutcome (bookOf limit c) s)
 unfolding acceptsSheet postOutcome answer
-accepts-post c g s = go (readSheet s) refl
+accepts-post limit c g s = go (readSheet s) refl
   where
-    go : (o : Outcome Numbers) → readSheet s ≡ o → acceptsSheet c s ≡ isDone (postOutcome (bookOf c) s)
+    go : (o : Outcome Numbers) → readSheet s ≡ o → acceptsSheet c s ≡ isDone (postOutcome (bookOf limit c) s)
     go (refused x) e = rw e
     go (done n) e =
         let m = read-month s e in
@@ -140,38 +140,43 @@ accepts-post c g s = go (readSheet s) refl
         (ap (λ (k : ℕ). notBefore (standingOf (c .sheet)) k) m ∙ in-order (c .told) (c .sheet) (g .1) (monthOf s)))
 
 -- the book, and what the caller saw
-record Moved (c : Count) (s : List ℕ) : Type 0 where
-  book : post (bookOf c) s .book ≡ bookOf (counted c (postOf s))
-  sheet : sheetAfter (post (bookOf c) s .answer) s (c .sheet) ≡ counted c (postOf s) .sheet
+record Moved (limit : ℕ) (c : Count) (s : List ℕ) : Type 0 where
+  book : post (bookOf limit c) s .book ≡ bookOf limit (counted c (postOf s))
+  sheet : sheetAfter (post (bookOf limit c) s .answer) s (c .sheet) ≡ counted c (postOf s) .sheet
 
-post-moves : (c : Count) → SoundCount c → (s : List ℕ) → Moved c s
+post-moves : (limit : ℕ) (c : Count) → SoundCount c → (s : List ℕ) → Moved limit c s
 unfolding post
-post-moves c g s = go (postOutcome (bookOf c) s) refl
+post-moves limit c g s = go (postOutcome (bookOf limit c) s) refl
   where
-    go : (o : Outcome Curve) → postOutcome (bookOf c) s ≡ o → Moved c s
-    go (refused x) e = record { book = rw (accepts-post c g s, e); sheet = rw (accepts-post c g s, e) }
-    go (done k) e = record { book = rw (accepts-post c g s, e, outcome-answer (bookOf c) s e); sheet = rw (accepts-post c g s, e) }
+    go : (o : Outcome Curve) → postOutcome (bookOf limit c) s ≡ o → Moved limit c s
+    go (refused x) e = record { book = rw (accepts-post limit c g s, e); sheet = rw (accepts-post limit c g s, e) }
+    go (done k) e =
+        record {
+          book = rw (accepts-post limit c g s, e, outcome-answer (bookOf limit c) s e);
+          sheet = rw (accepts-post limit c g s, e);
+        }
 
-pub sheet-step : (c : Count) → SoundCount c → (s : List ℕ) → sheetAfter (post (bookOf c) s .answer) s (c .sheet) ≡ counted c (postOf s) .sheet
-sheet-step c g s = post-moves c g s .sheet
+pub sheet-step :
+    (limit : ℕ) (c : Count) → SoundCount c → (s : List ℕ) → sheetAfter (post (bookOf limit c) s .answer) s (c .sheet) ≡ counted c (postOf s) .sheet
+sheet-step limit c g s = post-moves limit c g s .sheet
 
 -- ---- turn
 
-turn-step : (c : Count) (m : ℕ) → turn (bookOf c) m .book ≡ bookOf (counted c (turnTo m))
+turn-step : (limit : ℕ) (c : Count) (m : ℕ) → turn (bookOf limit c) m .book ≡ bookOf limit (counted c (turnTo m))
 unfolding turn turnOutcome acceptsMonth
-turn-step c m = split (leb m 2_399) (λ p. split (leb (c .told) m) (λ q. rw (p, q)) (λ q. rw (p, q))) (λ p. rw p)
+turn-step limit c m = split (leb m 2_399) (λ p. split (leb (c .told) m) (λ q. rw (p, q)) (λ q. rw (p, q))) (λ p. rw p)
 
-pub told-step : (c : Count) (m : ℕ) → toldAfter (turn (bookOf c) m .answer) (c .told) ≡ counted c (turnTo m) .told
+pub told-step : (limit : ℕ) (c : Count) (m : ℕ) → toldAfter (turn (bookOf limit c) m .answer) (c .told) ≡ counted c (turnTo m) .told
 unfolding turn turnOutcome acceptsMonth
-told-step c m = split (leb m 2_399) (λ p. split (leb (c .told) m) (λ q. rw (p, q)) (λ q. rw (p, q))) (λ p. rw p)
+told-step limit c m = split (leb m 2_399) (λ p. split (leb (c .told) m) (λ q. rw (p, q)) (λ q. rw (p, q))) (λ p. rw p)
 
 -- ---- every call, and every list of them
 
-pub step : (c : Count) → SoundCount c → (d : Call) → after (bookOf c) d ≡ bookOf (counted c d)
-step c g (postOf s) = post-moves c g s .book
-step c g (turnTo m) = turn-step c m
-step c g (asks q) = refl
+pub step : (limit : ℕ) (c : Count) → SoundCount c → (d : Call) → after (bookOf limit c) d ≡ bookOf limit (counted c d)
+step limit c g (postOf s) = post-moves limit c g s .book
+step limit c g (turnTo m) = turn-step limit c m
+step limit c g (asks q) = refl
 
-pub steps : (c : Count) → SoundCount c → (ds : List Call) → runFrom (bookOf c) ds ≡ bookOf (countFrom c ds)
-steps c g [] = refl
-steps c g (d ∷ ds) = rw (step c g d) (steps (counted c d) (sound c g d) ds)
+pub steps : (limit : ℕ) (c : Count) → SoundCount c → (ds : List Call) → runFrom (bookOf limit c) ds ≡ bookOf limit (countFrom c ds)
+steps limit c g [] = refl
+steps limit c g (d ∷ ds) = rw (step limit c g d) (steps limit (counted c d) (sound c g d) ds)

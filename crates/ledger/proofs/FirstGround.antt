@@ -2,13 +2,13 @@
 use mathlib.Core.Path.{_≡_, refl, ap, sym, _∙_}
 use mathlib.Core.Bool.{Bool, true, false, not, _&&_}
 use mathlib.Core.List.{List, [], _∷_, _++_}
-use Prim.Native.Nat.{ℕ, zero, suc, _-_}
+use Prim.Native.Nat.{ℕ, zero, suc}
 use native.Mathlib.Omega.{arith}
 use borrow.Author.Tests.{leb-true, leb-false, le-leb, lt-ltb, le-ltb}
 use lib.Dec.{leb, ltb, eqb, eqb·suc-zero}
 use lib.ListN.{length, drop}
-use Rattle.method.specs.Grounds.{wrongLength, wrongRecord, outOfRange, noVolume}
-use Rattle.method.specs.Grounds.{Ground, afterToldMonth, beforeStandingCurve, monthAboveLast, monthBeforeTold, yearOutside, noCurve, bufferTooShort}
+use Rattle.method.specs.Grounds.{Ground, wrongLength, wrongRecord, outOfRange, noVolume, afterToldMonth, beforeStandingCurve, monthAboveLast}
+use Rattle.method.specs.Grounds.{monthBeforeTold, yearOutside, noCurve, bufferTooShort, ageAboveLimit}
 use Rattle.method.specs.Grounds.{Outcome, refused, done, _>>=_, demand}
 use Rattle.method.specs.Sheet.{Numbers, readSheet, sheetNumbers, layoutOf, sizeOf, slotsOf, firstFailure, rightRecord, inRange, total}
 use Rattle.method.specs.Curve.{Curve, curveOf}
@@ -18,8 +18,9 @@ use Rattle.method.proofs.Layouts.{either-length}
 use Rattle.ledger.specs.Answers.{finding}
 use Rattle.ledger.specs.Page.{pageBytes}
 use Rattle.ledger.specs.Book.{Standing, none, some, Book, Booked, booked, notBefore, postOutcome, withCurve, post, turnOutcome, withTold, turn}
-use Rattle.ledger.specs.Book.{standingCurve, age, lookUp, pageOutcome, pagedBy, page}
-use Rattle.ledger.specs.Demands.{Applies, when, first, standsAfter, vacant, postGrounds, turnGrounds, lookGrounds, pageGrounds, foundIn, monthIn, Demand1}
+use Rattle.ledger.specs.Book.{openCurve, age, lookIn, lookUp, pageOutcome, pagedBy, page}
+use Rattle.ledger.specs.Demands.{Applies, when, first, standsAfter, vacant, tooOld, foundIn, monthIn, Demand1}
+use Rattle.ledger.specs.Demands.{postGrounds, turnGrounds, lookGrounds, pageGrounds}
 use Rattle.ledger.proofs.Asked.{refusal-kept, page-refused}
 
 -- a demand in its turn is a ground that applies where its test fails
@@ -83,11 +84,11 @@ booked-refused : {A : Type 0} (b : Book) (changed : A → Book) (month : A → �
 booked-refused b changed month (refused x) g e = refl
 booked-refused b changed month (done a) g e = absurd (refusal-kept {a = done (month a)} refl e)
 
-posted-answer : (b : Book) (o : Outcome Curve) → booked b (withCurve b) (λ c. c .month) o .answer ≡ monthIn o
+pub posted-answer : (b : Book) (o : Outcome Curve) → booked b (withCurve b) (λ c. c .month) o .answer ≡ monthIn o
 posted-answer b (refused g) = refl
 posted-answer b (done c) = refl
 
-turned-answer : (b : Book) (o : Outcome ℕ) → booked b (withTold b) (λ m. m) o .answer ≡ o
+pub turned-answer : (b : Book) (o : Outcome ℕ) → booked b (withTold b) (λ m. m) o .answer ≡ o
 turned-answer b (refused g) = refl
 turned-answer b (done m) = refl
 
@@ -98,41 +99,61 @@ turn-outcome-first b m =
     rw (not-at-most 2_399 m, not-at-most m (b .told))
     (demand-first (leb m 2_399) monthAboveLast _ (twelve ∷ []) (done m) (demand-first (leb (b .told) m) monthBeforeTold (done m) [] (done m) refl))
 
-look-first-is : (b : Book) (y : ℕ) → lookUp b y ≡ first (lookGrounds b y) (done (foundIn (b .told) (b .standing) y))
-unfolding lookUp lookGrounds
-look-first-is b y = rw (no-year y, not-at-most 150 y) (go (b .told) (b .standing) (leb 1 y) (leb y 150))
+-- 14, then 16, then what is found
+open-first : (k : Standing) (told limit y : ℕ) →
+    (openCurve k told limit >>= (λ c. done (finding (lowOf c y) (highOf c y) (c .month) (age told c))))
+    ≡ first (when (vacant k) noCurve ∷ when (tooOld k told limit) ageAboveLimit ∷ []) (done (foundIn told k y))
+open-first none told limit y = refl
+open-first (some c) told limit y = rw (not-at-most limit (age told c)) (by-test (leb (age told c) limit))
   where
-    go : (told : ℕ) (k : Standing) (p q : Bool) →
-        (demand (p && q) yearOutside >>= (λ _. standingCurve k >>= (λ c. done (finding (lowOf c y) (highOf c y) (c .month) (told - c .month)))))
-        ≡ first (when (not p) yearOutside ∷ when (not q) yearOutside ∷ when (vacant k) noCurve ∷ []) (done (foundIn told k y))
-    go told none true true = refl
-    go told (some c) true true = refl
-    go told k true false = refl
-    go told k false q = refl
+    by-test : (young : Bool) →
+        ((demand young ageAboveLimit >>= (λ _. done c)) >>= (λ c. done (finding (lowOf c y) (highOf c y) (c .month) (age told c))))
+        ≡ first (when (not young) ageAboveLimit ∷ []) (done (foundIn told (some c) y))
+    by-test true = refl
+    by-test false = refl
+
+look-first-is : (b : Book) (y : ℕ) → lookUp b y ≡ first (lookGrounds b y) (done (foundIn (b .told) (b .standing) y))
+unfolding lookIn lookGrounds
+look-first-is b y =
+    let later = when (vacant (b .standing)) noCurve ∷ when (tooOld (b .standing) (b .told) (b .ageLimit)) ageAboveLimit ∷ [] in
+    let found = done (foundIn (b .told) (b .standing) y) in
+    rw (no-year y, not-at-most 150 y) (go _ (leb 1 y) (leb y 150) later found (open-first (b .standing) (b .told) (b .ageLimit) y))
+  where
+    go : {A : Type 0} (o : Outcome A) (p q : Bool) (later : List Applies) (r : Outcome A) → o ≡ first later r →
+        (demand (p && q) yearOutside >>= (λ _. o)) ≡ first (when (not p) yearOutside ∷ when (not q) yearOutside ∷ later) r
+    go o true true later r e = e
+    go o true false later r e = refl
+    go o false q later r e = refl
 
 abbrev over : Book → List ℕ → Curve → List ℕ
-over b l c = pageBytes (c .month) (age b c) (c .lows) (c .highs) ++ drop 1_505 l
+over b l c = pageBytes (c .month) (age (b .told) c) (c .lows) (c .highs) ++ drop 1_505 l
 
 page-first-is : (b : Book) (l : List ℕ) → page b l .answer ≡ first (pageGrounds b l) (done tt)
-unfolding page pageOutcome pageGrounds
+unfolding pageOutcome pageGrounds
 page-first-is b l = rw (not-at-most (length l) 1_505) (go (b .standing) (leb 1_505 (length l)))
   where
-    go : (k : Standing) (p : Bool) →
-        pagedBy l (standingCurve k >>= (λ c. demand p bufferTooShort >>= (λ _. done (over b l c)))) .answer
-        ≡ first (when (vacant k) noCurve ∷ when (not p) bufferTooShort ∷ []) (done tt)
-    go none p = refl
-    go (some c) true = refl
-    go (some c) false = refl
+    by-tests : (c : Curve) (young long : Bool) →
+        pagedBy l ((demand young ageAboveLimit >>= (λ _. done c)) >>= (λ c. demand long bufferTooShort >>= (λ _. done (over b l c)))) .answer
+        ≡ first (when (not young) ageAboveLimit ∷ when (not long) bufferTooShort ∷ []) (done tt)
+    by-tests c true true = refl
+    by-tests c true false = refl
+    by-tests c false long = refl
+
+    go : (k : Standing) (long : Bool) →
+        pagedBy l (openCurve k (b .told) (b .ageLimit) >>= (λ c. demand long bufferTooShort >>= (λ _. done (over b l c)))) .answer
+        ≡ first (when (vacant k) noCurve ∷ when (tooOld k (b .told) (b .ageLimit)) ageAboveLimit ∷ when (not long) bufferTooShort ∷ []) (done tt)
+    go none long = refl
+    go (some c) long = rw (not-at-most (b .ageLimit) (age (b .told) c)) (by-tests c (leb (age (b .told) c) (b .ageLimit)) long)
 
 -- by its two tests
 abbrev turned : Book → ℕ → Bool → Bool → Booked
 turned b m p q = booked b (withTold b) (λ m. m) (demand p monthAboveLast >>= (λ _. demand q monthBeforeTold >>= (λ _. done m)))
 
-turned-told : (b : Book) (m k : ℕ) → turn b m .answer ≡ done k → turn b m .book ≡ record { told = m; standing = b .standing }
+turned-told : (b : Book) (m k : ℕ) → turn b m .answer ≡ done k → turn b m .book ≡ record { ageLimit = b .ageLimit; told = m; standing = b .standing }
 unfolding turn turnOutcome
 turned-told b m k e = go (leb m 2_399) (leb (b .told) m) e
   where
-    go : (p q : Bool) → turned b m p q .answer ≡ done k → turned b m p q .book ≡ record { told = m; standing = b .standing }
+    go : (p q : Bool) → turned b m p q .answer ≡ done k → turned b m p q .book ≡ record { ageLimit = b .ageLimit; told = m; standing = b .standing }
     go true true e = refl
     go true false e = absurd (refusal-kept e refl)
     go false q e = absurd (refusal-kept e refl)

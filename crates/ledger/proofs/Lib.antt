@@ -4,6 +4,7 @@ pub mod Count
 pub mod Asked
 pub mod Theorem
 pub mod FirstGround
+pub mod AgeLimit
 pub mod Stored
 pub mod Places
 pub mod Examples

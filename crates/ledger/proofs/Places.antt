@@ -10,7 +10,7 @@ use Rattle.method.proofs.Places.{place, bind-place, demand-place, read-place, c
 use Rattle.ledger.specs.Answers.{answerPlace}
 use Rattle.ledger.specs.Page.{pageLength}
 use Rattle.ledger.specs.Book.{Standing, none, some, Book, booked, notBefore, postOutcome, post, lastMonth, turnOutcome, turn}
-use Rattle.ledger.specs.Book.{standingCurve, yearInside, lookUp, pageOutcome, pagedBy, page}
+use Rattle.ledger.specs.Book.{age, openCurve, yearInside, lookIn, lookUp, pageOutcome, pagedBy, page}
 use Rattle.ledger.specs.Calls.{Call, postOf, turnTo, asks, lookAt, pageInto, answerOf}
 
 -- a refusal is answered as it is, and an accepted call at place 0
@@ -33,7 +33,7 @@ post-place b s =
     λ n e. demand-place (leb (n .month) (b .told)) _ _ (omega arith)
     (demand-place (notBefore (b .standing) (n .month)) _ _ (omega arith) (curve-place n)))
 
--- ---- the other calls: 11 to 15 have place 0
+-- ---- the other calls: 11 to 16 have place 0
 
 turn-place : (b : Book) (m : ℕ) → answerPlace (turn b m .answer) ≤ 0
 unfolding turn turnOutcome
@@ -41,20 +41,21 @@ turn-place b m =
     booked-place b _ _ (turnOutcome b m)
     (demand-place (leb m lastMonth) _ _ (omega arith) (demand-place (leb (b .told) m) _ _ (omega arith) (omega arith)))
 
-standing-place : (s : Standing) → place (standingCurve s) ≤ 0
-standing-place none = omega arith
-standing-place (some c) = omega arith
+open-place : (s : Standing) (told limit : ℕ) → place (openCurve s told limit) ≤ 0
+open-place none told limit = omega arith
+open-place (some c) told limit = demand-place (leb (age told c) limit) _ _ (omega arith) (omega arith)
 
 look-place : (b : Book) (y : ℕ) → answerPlace (lookUp b y) ≤ 0
-unfolding lookUp
+unfolding lookIn
 look-place b y =
-    demand-place (yearInside y) _ _ (omega arith) (bind-place (standingCurve (b .standing)) _ (standing-place (b .standing)) λ c e. omega arith)
+    demand-place (yearInside y) _ _ (omega arith)
+    (bind-place (openCurve (b .standing) (b .told) (b .ageLimit)) _ (open-place (b .standing) (b .told) (b .ageLimit)) λ c e. omega arith)
 
 page-place : (b : Book) (l : List ℕ) → answerPlace (page b l .answer) ≤ 0
-unfolding page pageOutcome
+unfolding pageOutcome
 page-place b l =
-    paged-place l (pageOutcome b l)
-    (bind-place (standingCurve (b .standing)) _ (standing-place (b .standing))
+    paged-place l (pageOutcome (b .standing) (b .told) (b .ageLimit) l)
+    (bind-place (openCurve (b .standing) (b .told) (b .ageLimit)) _ (open-place (b .standing) (b .told) (b .ageLimit))
     λ c e. demand-place (leb pageLength (length l)) _ _ (omega arith) (omega arith))
 
 pub answer-place : (b : Book) (c : Call) → answerOf b c .place ≤ 150

@@ -59,5 +59,5 @@ demand-2 b =
     record {
       accepts = λ s c a. rw (accepts-it b s c a);
       accepts-only = accepted-only b;
-      pages = λ c l e f h. page-of-book b c l e f h;
+      pages = λ c l e f w h. page-of-book b c l e f w h;
     }

@@ -1,18 +1,18 @@
--- Demand 3 over every list of calls, and the count by the answers that a caller saw.
+-- Demand 3 over every list of calls from a fresh book of any age limit, and the count by the answers that a caller saw.
 use mathlib.Core.Path.{_≡_, refl, ap, sym, subst, _∙_}
 use mathlib.Core.List.{List, [], _∷_}
-use Prim.Native.Nat.{ℕ, _+_, _-_, _≤_, _<_}
+use Prim.Native.Nat.{ℕ, _+_, _-_, _≤_, _<_, min}
 use native.Mathlib.Omega.{arith}
 use borrow.Author.Tests.{leb-true, leb-false}
 use lib.Dec.{leb}
 use lib.ListN.{length, getD}
 use Rattle.method.specs.Units.{pair}
-use Rattle.method.specs.Grounds.{noCurve, bufferTooShort, Outcome, refused, done}
+use Rattle.method.specs.Grounds.{noCurve, bufferTooShort, ageAboveLimit, refused, done}
 use Rattle.method.specs.Curve.{Curve, answer}
 use Rattle.method.specs.Enclosure.{CurveHolds, lowOf, highOf}
 use Rattle.method.proofs.Enclosure.{enclosure}
 use Rattle.method.proofs.Outcome.{split}
-use Rattle.ledger.specs.Book.{some, Book, Paged, lookUp, page}
+use Rattle.ledger.specs.Book.{none, some, Book, Paged, openCurve, lookUp, page}
 use Rattle.ledger.specs.Calls.{lookAt, pageInto, Call, postOf, turnTo, asks, run}
 use Rattle.ledger.specs.Count.{LastSheet, unposted, posted, Count, monthOf, typed, acceptsSheet, acceptsMonth, counted, countFrom, nothing, count}
 use Rattle.ledger.specs.Tells.{bandIn, bandOf, Band, Finds, LookTells, PageWritten, PageTells}
@@ -20,7 +20,8 @@ use Rattle.ledger.specs.Demands.{Demand3, lastPosted, lastTold, CountIsL
 use Rattle.ledger.proofs.Typed.{typed-is}
 use Rattle.ledger.proofs.Count.{bookWith, bookOf, standingOf, Sound, SoundCount, sound, all-sound}
 use Rattle.ledger.proofs.Count.{works-done, answer-length, answer-month, step, steps, sheet-step, told-step}
-use Rattle.ledger.proofs.Asked.{refusal-kept, look-none, look-some, look-outside, page-none, page-short, page-some, page-refused, page-of-book}
+use Rattle.ledger.proofs.Asked.{refusal-kept, other-ground, open-within, closed-old, look-outside, look-open, look-closed}
+use Rattle.ledger.proofs.Asked.{page-short, page-closed, page-refused, page-of-book}
 
 -- ---- what the last accepted sheet is worked to
 
@@ -69,21 +70,58 @@ module _ (told : ℕ) (s : List ℕ) (g : Sound told (posted s)) where
         high-fits = high-fits;
       }
 
-  finds-of : (c : Count) → c .told ≡ told → (y : ℕ) → 1 ≤ y → y ≤ 150 → Finds c s y (lookUp (bookWith told (posted s)) y)
-  finds-of c e y h k =
-      record {
-        not-after-told = rw e (g .1);
-        found = rw (look-some (bookWith told (posted s)) y curve stands h k, band-at y, e, answer-month s worked);
-        band = band-of y h k;
-      }
+  -- the book with this sheet's curve, made with any age limit
+  module _ (limit : ℕ) (ht : told ≤ 2_399) where
+    abbrev made-with : ℕ
+    made-with = min limit 2_399
 
-  page-of : (l : List ℕ) → told ≤ 2_399 → 1_505 ≤ length l →
-      PageWritten l (monthOf s) (told - monthOf s) (bandOf s) (page (bookWith told (posted s)) l)
-  page-of l ht h =
-      let b = bookWith told (posted s) in
-      let of-curve = page-of-book b curve l stands (fits ht) h in
-      let of-month = subst (λ m. PageWritten l m (told - m) (bandIn (done curve)) (page b l)) (answer-month s worked) of-curve in
-      subst (λ o. PageWritten l (monthOf s) (told - monthOf s) (bandIn o) (page b l)) (sym worked) of-month
+    abbrev held : Book
+    held = bookWith made-with told (posted s)
+
+    open-held : told - monthOf s ≤ limit → openCurve (held .standing) told made-with ≡ done curve
+    open-held h = open-within (held .standing) told made-with curve stands (rw (answer-month s worked) (omega arith))
+
+    closed-held : limit < told - monthOf s → openCurve (held .standing) told made-with ≡ refused ageAboveLimit
+    closed-held h = closed-old (held .standing) told made-with curve stands (rw (answer-month s worked) (omega arith))
+
+    finds-of : (c : Count) → c .told ≡ told → told - monthOf s ≤ limit → (y : ℕ) → 1 ≤ y → y ≤ 150 → Finds c s y (lookUp held y)
+    finds-of c e within y h k =
+        record {
+          not-after-told = rw e (g .1);
+          found = rw (look-open (held .standing) told made-with y curve (open-held within) h k, band-at y, e, answer-month s worked);
+          band = band-of y h k;
+        }
+
+    look-old : limit < told - monthOf s → (y : ℕ) → 1 ≤ y → y ≤ 150 → lookUp held y ≡ refused ageAboveLimit
+    look-old older y h k = look-closed (held .standing) told made-with y (closed-held older) h k
+
+    -- a book that holds a curve never says that there is none
+    look-never-none : (y : ℕ) → 1 ≤ y → y ≤ 150 → lookUp held y ≡ refused noCurve → ⊥
+    look-never-none y h k e =
+        split (leb (told - monthOf s) limit)
+        (λ q. refusal-kept (look-open (held .standing) told made-with y curve (open-held (leb-true _ _ q)) h k) e)
+        (λ q. other-ground (look-old (leb-false _ _ q) y h k) e (λ n. omega (arith, n)))
+
+    page-of : (l : List ℕ) → told - monthOf s ≤ limit → 1_505 ≤ length l →
+        PageWritten l (monthOf s) (told - monthOf s) (bandOf s) (page held l)
+    page-of l within h =
+        let of-curve = page-of-book held curve l stands (fits ht) (rw (answer-month s worked) (omega arith)) h in
+        let of-month = subst (λ m. PageWritten l m (told - m) (bandIn (done curve)) (page held l)) (answer-month s worked) of-curve in
+        subst (λ o. PageWritten l (monthOf s) (told - monthOf s) (bandIn o) (page held l)) (sym worked) of-month
+
+    page-old : limit < told - monthOf s → (l : List ℕ) → page held l .answer ≡ refused ageAboveLimit
+    page-old older l = ap (λ (p : Paged). p .answer) (page-closed (held .standing) told made-with l (closed-held older))
+
+    short-of : told - monthOf s ≤ limit → (l : List ℕ) → length l < 1_505 → page held l .answer ≡ refused bufferTooShort
+    short-of within l h = ap (λ (p : Paged). p .answer) (page-short (held .standing) told made-with l curve (open-held within) h)
+
+    page-never-none : (l : List ℕ) → page held l .answer ≡ refused noCurve → ⊥
+    page-never-none l e =
+        split (leb (told - monthOf s) limit)
+        (λ q. split (leb 1_505 (length l))
+        (λ r. refusal-kept (page-of l (leb-true _ _ q) (leb-true _ _ r) .written) e)
+        (λ r. other-ground (short-of (leb-true _ _ q) l (leb-false _ _ r)) e (λ n. omega (arith, n))))
+        (λ q. other-ground (page-old (leb-false _ _ q) l) e (λ n. omega (arith, n)))
 
 -- ---- demand 3
 
@@ -93,79 +131,76 @@ never-posted e = let z : _≡_ {A = ℕ} 0 1 = cc in omega arith
 same-sheet : {s t : List ℕ} → posted s ≡ posted t → s ≡ t
 same-sheet e = cc e
 
-look-tells : (told : ℕ) (h : LastSheet) → Sound told h → (y : ℕ) → LookTells (record { told = told; sheet = h }) y (lookUp (bookWith told h) y)
-look-tells told unposted g y =
-    record {
-      outside = look-outside (bookWith told unposted) y;
-      none-found = λ h k. (λ e. refl, λ e. look-none (bookWith told unposted) y refl h k);
-      finds = λ s e h k. absurd (never-posted (sym e));
-    }
-look-tells told (posted s) g y =
-    let b = bookWith told (posted s) in
-    record {
-      outside = look-outside b y;
-      none-found = λ h k. (λ e. absurd (refusal-kept (look-some b y (curve told s g) (stands told s g) h k) e), λ e. absurd (never-posted e));
-      finds = λ t e h k. subst (λ x. Finds (record { told = told; sheet = posted s }) x y (lookUp b y)) (same-sheet e) (finds-of told s g _ refl y h k);
-    }
+module _ (limit told : ℕ) (m : told ≤ 2_399) where
+  -- the book with the last accepted sheet, and its count
+  abbrev book-with : LastSheet → Book
+  book-with h = bookWith (min limit 2_399) told h
 
-page-tells : (told : ℕ) (h : LastSheet) → told ≤ 2_399 → Sound told h → (l : List ℕ) →
-    PageTells (record { told = told; sheet = h }) l (page (bookWith told h) l)
-page-tells told unposted m g l =
-    let b = bookWith told unposted in
-    record {
-      untouched = page-refused b l;
-      none-found = (λ e. refl, λ e. ap (λ (p : Paged). p .answer) (page-none b l refl));
-      too-short = λ s e h. absurd (never-posted (sym e));
-      writes = λ s e h. absurd (never-posted (sym e));
-      bands = λ s e y h k. absurd (never-posted (sym e));
-    }
-page-tells told (posted s) m g l =
-    record {
-      untouched = page-refused b l;
-      none-found = (λ e. absurd (never-none e), λ e. absurd (never-posted e));
-      too-short = λ t e h. ap (λ (p : Paged). p .answer) (page-short b l c is h);
-      writes = λ t e h. subst (λ x. PageWritten l (monthOf x) (told - monthOf x) (bandOf x) (page b l)) (same-sheet e) (page-of told s g l m h);
-      bands = λ t e y h k. subst (λ x. Band x y (bandOf x y)) (same-sheet e) (band-of told s g y h k);
-    }
-  where
-    b : Book
-    b = bookWith told (posted s)
+  abbrev count-with : LastSheet → Count
+  count-with h = record { told = told; sheet = h }
 
-    c : Curve
-    c = curve told s g
+  look-tells : (h : LastSheet) → Sound told h → (y : ℕ) → LookTells limit (count-with h) y (lookUp (book-with h) y)
+  look-tells unposted g y =
+      record {
+        outside = look-outside none told (min limit 2_399) y;
+        none-found = λ h k. (λ e. refl, λ e. look-closed none told (min limit 2_399) y refl h k);
+        finds = λ s e w h k. absurd (never-posted (sym e));
+        too-old = λ s e o h k. absurd (never-posted (sym e));
+      }
+  look-tells (posted s) g y =
+      let look = lookUp (book-with (posted s)) y in
+      record {
+        outside = look-outside (standingOf (posted s)) told (min limit 2_399) y;
+        none-found = λ h k. (λ e. absurd (look-never-none told s g limit m y h k e), λ e. absurd (never-posted e));
+        finds = λ t e w h k.
+            let same = same-sheet e in
+            subst (λ x. Finds (count-with (posted s)) x y look) same (finds-of told s g limit m _ refl (rw same w) y h k);
+        too-old = λ t e o h k. look-old told s g limit m (rw (same-sheet e) o) y h k;
+      }
 
-    is : b .standing ≡ some c
-    is = stands told s g
-
-    short-is-not-none : {a : Outcome (Unit {0})} → a ≡ refused bufferTooShort → a ≡ refused noCurve → ⊥
-    short-is-not-none p q = let z : _≡_ {A = ℕ} 0 1 = cc in omega arith
-
-    never-none : page b l .answer ≡ refused noCurve → ⊥
-    never-none e =
-        split (leb 1_505 (length l))
-        (λ q. refusal-kept (ap (λ (p : Paged). p .answer) (page-some b l c is (leb-true 1_505 (length l) q))) e)
-        (λ q. short-is-not-none (ap (λ (p : Paged). p .answer) (page-short b l c is (leb-false 1_505 (length l) q))) e)
+  page-tells : (h : LastSheet) → Sound told h → (l : List ℕ) → PageTells limit (count-with h) l (page (book-with h) l)
+  page-tells unposted g l =
+      record {
+        untouched = page-refused (book-with unposted) l;
+        none-found = (λ e. refl, λ e. ap (λ (p : Paged). p .answer) (page-closed none told (min limit 2_399) l refl));
+        too-old = λ s e o. absurd (never-posted (sym e));
+        too-short = λ s e w h. absurd (never-posted (sym e));
+        writes = λ s e w h. absurd (never-posted (sym e));
+        bands = λ s e w y h k. absurd (never-posted (sym e));
+      }
+  page-tells (posted s) g l =
+      let paged = page (book-with (posted s)) l in
+      record {
+        untouched = page-refused (book-with (posted s)) l;
+        none-found = (λ e. absurd (page-never-none told s g limit m l e), λ e. absurd (never-posted e));
+        too-old = λ t e o. page-old told s g limit m (rw (same-sheet e) o) l;
+        too-short = λ t e w h. short-of told s g limit m (rw (same-sheet e) w) l h;
+        writes = λ t e w h.
+            let same = same-sheet e in
+            subst (λ x. PageWritten l (monthOf x) (told - monthOf x) (bandOf x) paged) same (page-of told s g limit m l (rw same w) h);
+        bands = λ t e w y h k. subst (λ x. Band x y (bandOf x y)) (same-sheet e) (band-of told s g y h k);
+      }
 
 -- the book that any list of calls leaves is the one that its count stands for
-pub run-is : (cs : List Call) → run cs ≡ bookOf (count cs)
-run-is cs = steps nothing (omega arith, tt) cs
+pub run-is : (limit : ℕ) (cs : List Call) → run limit cs ≡ bookOf (min limit 2_399) (count cs)
+run-is limit cs = steps (min limit 2_399) nothing (omega arith, tt) cs
 
 pub run-sound : (cs : List Call) → SoundCount (count cs)
 run-sound cs = all-sound nothing (omega arith, tt) cs
 
-pub demand-3 : (cs : List Call) → Demand3 cs
-demand-3 cs (lookAt y) = rw (run-is cs) (look-tells (count cs .told) (count cs .sheet) (run-sound cs .1) y)
-demand-3 cs (pageInto l) = rw (run-is cs) (page-tells (count cs .told) (count cs .sheet) (run-sound cs .0) (run-sound cs .1) l)
+pub demand-3 : (limit : ℕ) (cs : List Call) → Demand3 limit cs
+demand-3 limit cs (lookAt y) = rw (run-is limit cs) (look-tells limit (count cs .told) (run-sound cs .0) (count cs .sheet) (run-sound cs .1) y)
+demand-3 limit cs (pageInto l) = rw (run-is limit cs) (page-tells limit (count cs .told) (run-sound cs .0) (count cs .sheet) (run-sound cs .1) l)
 
 -- every number of every book that calls can leave fits its bytes on the page
-sheet-fits : (told : ℕ) (h : LastSheet) → told ≤ 2_399 → Sound told h → FitsPage (bookWith told h)
-sheet-fits told unposted m g c e = let z : _≡_ {A = ℕ} 0 1 = cc in absurd (omega arith)
-sheet-fits told (posted s) m g c e =
+sheet-fits : (limit told : ℕ) (h : LastSheet) → told ≤ 2_399 → Sound told h → FitsPage (bookWith limit told h)
+sheet-fits limit told unposted m g c e = let z : _≡_ {A = ℕ} 0 1 = cc in absurd (omega arith)
+sheet-fits limit told (posted s) m g c e =
     let same : curve told s g ≡ c = cc (stands told s g, e) in
     subst (CurveFits told) same (fits told s g m)
 
-pub run-fits : (cs : List Call) → FitsPage (run cs)
-run-fits cs = rw (run-is cs) (sheet-fits (count cs .told) (count cs .sheet) (run-sound cs .0) (run-sound cs .1))
+pub run-fits : (limit : ℕ) (cs : List Call) → FitsPage (run limit cs)
+run-fits limit cs = rw (run-is limit cs) (sheet-fits (min limit 2_399) (count cs .told) (count cs .sheet) (run-sound cs .0) (run-sound cs .1))
 
 -- ---- the count by the answers
 
@@ -175,21 +210,29 @@ sheet-kept c m = split (acceptsMonth c m) (λ q. rw q) (λ q. rw q)
 told-kept : (c : Count) (s : List ℕ) → counted c (postOf s) .told ≡ c .told
 told-kept c s = split (acceptsSheet c s) (λ q. rw q) (λ q. rw q)
 
-last-sheet-is : (c : Count) → SoundCount c → (cs : List Call) → countFrom c cs .sheet ≡ lastPosted (bookOf c) (c .sheet) cs
-last-sheet-is c g [] = refl
-last-sheet-is c g (postOf s ∷ cs) = rw (step c g (postOf s), sheet-step c g s) (last-sheet-is (counted c (postOf s)) (sound c g (postOf s)) cs)
-last-sheet-is c g (turnTo m ∷ cs) =
-    let d = counted c (turnTo m) in
-    rw (step c g (turnTo m)) (last-sheet-is d (sound c g (turnTo m)) cs ∙ ap (λ (h : LastSheet). lastPosted (bookOf d) h cs) (sheet-kept c m))
-last-sheet-is c g (asks q ∷ cs) = last-sheet-is c g cs
+module _ (limit : ℕ) where
+  last-sheet-is : (c : Count) → SoundCount c → (cs : List Call) → countFrom c cs .sheet ≡ lastPosted (bookOf limit c) (c .sheet) cs
+  last-sheet-is c g [] = refl
+  last-sheet-is c g (postOf s ∷ cs) =
+      rw (step limit c g (postOf s), sheet-step limit c g s) (last-sheet-is (counted c (postOf s)) (sound c g (postOf s)) cs)
+  last-sheet-is c g (turnTo m ∷ cs) =
+      let d = counted c (turnTo m) in
+      rw (step limit c g (turnTo m))
+      (last-sheet-is d (sound c g (turnTo m)) cs ∙ ap (λ (h : LastSheet). lastPosted (bookOf limit d) h cs) (sheet-kept c m))
+  last-sheet-is c g (asks q ∷ cs) = last-sheet-is c g cs
 
-last-told-is : (c : Count) → SoundCount c → (cs : List Call) → countFrom c cs .told ≡ lastTold (bookOf c) (c .told) cs
-last-told-is c g [] = refl
-last-told-is c g (postOf s ∷ cs) =
-    let d = counted c (postOf s) in
-    rw (step c g (postOf s)) (last-told-is d (sound c g (postOf s)) cs ∙ ap (λ (t : ℕ). lastTold (bookOf d) t cs) (told-kept c s))
-last-told-is c g (turnTo m ∷ cs) = rw (step c g (turnTo m), told-step c m) (last-told-is (counted c (turnTo m)) (sound c g (turnTo m)) cs)
-last-told-is c g (asks q ∷ cs) = last-told-is c g cs
+  last-told-is : (c : Count) → SoundCount c → (cs : List Call) → countFrom c cs .told ≡ lastTold (bookOf limit c) (c .told) cs
+  last-told-is c g [] = refl
+  last-told-is c g (postOf s ∷ cs) =
+      let d = counted c (postOf s) in
+      rw (step limit c g (postOf s)) (last-told-is d (sound c g (postOf s)) cs ∙ ap (λ (t : ℕ). lastTold (bookOf limit d) t cs) (told-kept c s))
+  last-told-is c g (turnTo m ∷ cs) =
+      rw (step limit c g (turnTo m), told-step limit c m) (last-told-is (counted c (turnTo m)) (sound c g (turnTo m)) cs)
+  last-told-is c g (asks q ∷ cs) = last-told-is c g cs
 
-pub count-is-last : (cs : List Call) → CountIsLast cs
-count-is-last cs = record { last-sheet = last-sheet-is nothing (omega arith, tt) cs; last-month = last-told-is nothing (omega arith, tt) cs }
+pub count-is-last : (limit : ℕ) (cs : List Call) → CountIsLast limit cs
+count-is-last limit cs =
+    record {
+      last-sheet = last-sheet-is (min limit 2_399) nothing (omega arith, tt) cs;
+      last-month = last-told-is (min limit 2_399) nothing (omega arith, tt) cs;
+    }

@@ -1,10 +1,10 @@
--- SPECIFICATION 7: the book, and what each call answers and leaves behind, with grounds 1 to 15 in their order.
+-- SPECIFICATION 7: the book, and what each call answers and leaves behind, with grounds 1 to 16 in their order.
 use mathlib.Core.Bool.{Bool, true, _&&_}
 use mathlib.Core.List.{List, _++_}
-use Prim.Native.Nat.{ℕ, _-_}
+use Prim.Native.Nat.{ℕ, _-_, min}
 use lib.Dec.{leb}
 use lib.ListN.{length, drop}
-use Rattle.method.specs.Grounds.{afterToldMonth, beforeStandingCurve, monthAboveLast, monthBeforeTold, yearOutside, noCurve, bufferTooShort}
+use Rattle.method.specs.Grounds.{afterToldMonth, beforeStandingCurve, monthAboveLast, monthBeforeTold, yearOutside, noCurve, bufferTooShort, ageAboveLimit}
 use Rattle.method.specs.Grounds.{Outcome, refused, done, _>>=_, demand}
 use Rattle.method.specs.Sheet.{readSheet}
 use Rattle.method.specs.Curve.{Curve, curveOf}
@@ -18,12 +18,17 @@ pub data Standing : Type 0 where
   some : Curve → Standing
 
 pub record Book : Type 0 where
+  pub ageLimit : ℕ
   pub told : ℕ
   pub standing : Standing
 
--- told month 0 and no curve
-abbrev pub fresh : Book
-fresh = record { told = 0; standing = none }
+-- the desk's; no curve can be older, as no later month can be told
+abbrev pub largestAgeLimit : ℕ
+largestAgeLimit = 2_399
+
+-- made with an age limit, a larger number making the largest one; told month 0 and no curve
+abbrev pub fresh : ℕ → Book
+fresh limit = record { ageLimit = min limit largestAgeLimit; told = 0; standing = none }
 
 -- ---- a call that may change the book: the book after it, and the month that it answers
 
@@ -52,7 +57,7 @@ postOutcome b s = do
 
 -- the curve and its month are replaced; the answer is the sheet's month
 abbrev pub withCurve : Book → Curve → Book
-withCurve b c = record { told = b .told; standing = some c }
+withCurve b c = record { ageLimit = b .ageLimit; told = b .told; standing = some c }
 
 unfoldable pub post : Book → List ℕ → Booked
 post b s = booked b (withCurve b) (λ c. c .month) (postOutcome b s)
@@ -70,38 +75,49 @@ turnOutcome b m = do
 
 -- the answer is the month that is now told
 abbrev pub withTold : Book → ℕ → Book
-withTold b m = record { told = m; standing = b .standing }
+withTold b m = record { ageLimit = b .ageLimit; told = m; standing = b .standing }
 
 unfoldable pub turn : Book → ℕ → Booked
 turn b m = booked b (withTold b) (λ m. m) (turnOutcome b m)
 
--- ---- look-up: 13, 14
-
-abbrev pub standingCurve : Standing → Outcome Curve
-standingCurve none = refused noCurve
-standingCurve (some c) = done c
+-- ---- what may be shown of a curve, at a told month and with an age limit: 14, 16
 
 -- told month less sheet month
-abbrev pub age : Book → Curve → ℕ
-age b c = b .told - c .month
+abbrev pub age : ℕ → Curve → ℕ
+age told c = told - c .month
+
+abbrev pub young : Curve → ℕ → ℕ → Bool
+young c told limit = leb (age told c) limit
+
+-- a curve that is too old is closed, and stands all the same
+abbrev pub openCurve : Standing → ℕ → ℕ → Outcome Curve
+openCurve none told limit = refused noCurve
+openCurve (some c) told limit = do
+  _ ← demand (young c told limit) ageAboveLimit
+  done c
+
+-- ---- look-up: 13, 14, 16
 
 abbrev pub yearInside : ℕ → Bool
 yearInside y = leb 1 y && leb y 150
 
-unfoldable pub lookUp : Book → ℕ → Outcome Finding
-lookUp b y = do
+unfoldable pub lookIn : Standing → ℕ → ℕ → ℕ → Outcome Finding
+lookIn s told limit y = do
   _ ← demand (yearInside y) yearOutside
-  c ← standingCurve (b .standing)
-  done (finding (lowOf c y) (highOf c y) (c .month) (age b c))
+  c ← openCurve s told limit
+  done (finding (lowOf c y) (highOf c y) (c .month) (age told c))
 
--- ---- page: 14, 15
+abbrev pub lookUp : Book → ℕ → Outcome Finding
+lookUp b y = lookIn (b .standing) (b .told) (b .ageLimit) y
+
+-- ---- page: 14, 16, 15
 
 -- bytes past the page are kept
-unfoldable pub pageOutcome : Book → List ℕ → Outcome (List ℕ)
-pageOutcome b l = do
-  c ← standingCurve (b .standing)
+unfoldable pub pageOutcome : Standing → ℕ → ℕ → List ℕ → Outcome (List ℕ)
+pageOutcome s told limit l = do
+  c ← openCurve s told limit
   _ ← demand (leb pageLength (length l)) bufferTooShort
-  done (pageBytes (c .month) (age b c) (c .lows) (c .highs) ++ drop pageLength l)
+  done (pageBytes (c .month) (age told c) (c .lows) (c .highs) ++ drop pageLength l)
 
 pub record Paged : Type 0 where
   pub buffer : List ℕ
@@ -112,5 +128,8 @@ abbrev pub pagedBy : List ℕ → Outcome (List ℕ) → Paged
 pagedBy l (refused g) = record { buffer = l; answer = refused g }
 pagedBy l (done out) = record { buffer = out; answer = done tt }
 
-unfoldable pub page : Book → List ℕ → Paged
-page b l = pagedBy l (pageOutcome b l)
+abbrev pub pageIn : Standing → ℕ → ℕ → List ℕ → Paged
+pageIn s told limit l = pagedBy l (pageOutcome s told limit l)
+
+abbrev pub page : Book → List ℕ → Paged
+page b l = pageIn (b .standing) (b .told) (b .ageLimit) l

@@ -1,4 +1,4 @@
--- SPECIFICATION 8: every list of calls, and the run from a fresh book.
+-- SPECIFICATION 8: every list of calls, and the run from a fresh book of any age limit.
 use mathlib.Core.List.{List, [], _∷_}
 use Prim.Native.Nat.{ℕ}
 use Rattle.method.specs.Grounds.{Outcome}
@@ -27,8 +27,8 @@ abbrev pub runFrom : Book → List Call → Book
 runFrom b [] = b
 runFrom b (c ∷ cs) = runFrom (after b c) cs
 
-abbrev pub run : List Call → Book
-run cs = runFrom fresh cs
+abbrev pub run : ℕ → List Call → Book
+run limit cs = runFrom (fresh limit) cs
 
 -- ---- what a question is answered
 

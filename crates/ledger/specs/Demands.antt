@@ -2,25 +2,48 @@
 use mathlib.Core.Path.{_≡_}
 use mathlib.Core.Bool.{Bool, true, false, not, _||_}
 use mathlib.Core.List.{List, [], _∷_}
-use Prim.Native.Nat.{ℕ, _-_, _≤_, _<_}
+use mathlib.Core.Logic.{_⊎_}
+use Prim.Native.Nat.{ℕ, _+_, _-_, _≤_, _<_}
 use lib.Dec.{ltb, eqb}
 use lib.ListN.{length, getD}
 use Rattle.method.specs.Units.{pair}
 use Rattle.method.specs.Grounds.{Ground, wrongLength, wrongRecord, outOfRange, noVolume, afterToldMonth, beforeStandingCurve}
-use Rattle.method.specs.Grounds.{monthAboveLast, monthBeforeTold, yearOutside, noCurve, bufferTooShort, Outcome, refused, done}
+use Rattle.method.specs.Grounds.{monthAboveLast, monthBeforeTold, yearOutside, noCurve, bufferTooShort, ageAboveLimit, Outcome, refused, done}
 use Rattle.method.specs.Sheet.{Numbers, readSheet, sheetNumbers, layoutOf, slotsOf, firstFailure, rightRecord, inRange, total}
 use Rattle.method.specs.Curve.{Curve, curveOf}
 use Rattle.method.specs.Enclosure.{lowOf, highOf}
 use Rattle.ledger.specs.Answers.{Finding, finding}
 use Rattle.ledger.specs.Book.{Standing, none, some, Book, fresh, post, turn, lookUp, page}
-use Rattle.ledger.specs.Calls.{Question, Call, postOf, turnTo, asks, run, answered}
+use Rattle.ledger.specs.Calls.{Question, Call, postOf, turnTo, asks, run, answered, answerOf}
 use Rattle.ledger.specs.Count.{LastSheet, unposted, posted, count}
 use Rattle.ledger.specs.Tells.{PageWritten, Tells}
 
--- ═══ Demand 3: over EVERY list of calls from a fresh book, any question is answered as the count of the list tells
+-- ═══ Demand 3: over EVERY list of calls from a fresh book of ANY age limit, any question is answered as the count of the list tells
 
-abbrev pub Demand3 : List Call → Type 0
-Demand3 cs = (q : Question) → Tells (count cs) q (answered (run cs) q)
+abbrev pub Demand3 : ℕ → List Call → Type 0
+Demand3 limit cs = (q : Question) → Tells limit (count cs) q (answered (run limit cs) q)
+
+-- ═══ A turn can close a curve that a look-up showed before, and the book still holds it
+
+pub record Closes (b : Book) (y m : ℕ) : Type 0 where
+  pub accepted : turn b m .answer ≡ done m
+  pub still-held : turn b m .book .standing ≡ b .standing
+  pub closed : lookUp (turn b m .book) y ≡ refused ageAboveLimit
+
+abbrev pub TurnCloses : Book → Type 0
+TurnCloses b = (y m : ℕ) (f : Finding) → lookUp b y ≡ done f → b .told ≤ m → m ≤ 2_399 → f .month + b .ageLimit < m → Closes b y m
+
+-- ═══ The age limit closes a curve and does nothing else. Whatever it is, the same curve stands and the same posts and turns are
+-- accepted as with the largest one; a question is answered as with that, or 16, which that one never answers
+
+pub record OnlyCloses (limit : ℕ) (cs : List Call) : Type 0 where
+  pub same-standing : run limit cs .standing ≡ run 2_399 cs .standing
+  pub same-told : run limit cs .told ≡ run 2_399 cs .told
+  pub same-posts : (s : List ℕ) → post (run limit cs) s .answer ≡ post (run 2_399 cs) s .answer
+  pub same-turns : (m : ℕ) → turn (run limit cs) m .answer ≡ turn (run 2_399 cs) m .answer
+  pub closed-or-same :
+      (q : Question) → (answerOf (run limit cs) (asks q) .number ≡ 16) ⊎ (answered (run limit cs) q ≡ answered (run 2_399 cs) q)
+  pub largest-never-closes : (q : Question) → answerOf (run 2_399 cs) (asks q) .number ≡ 16 → ⊥
 
 -- ═══ The count by the answers that a caller saw: the last accepted post's sheet, the last accepted turn's month or 0
 
@@ -44,9 +67,9 @@ lastTold b t (postOf s ∷ cs) = lastTold (post b s .book) t cs
 lastTold b t (turnTo m ∷ cs) = lastTold (turn b m .book) (toldAfter (turn b m .answer) t) cs
 lastTold b t (asks q ∷ cs) = lastTold b t cs
 
-pub record CountIsLast (cs : List Call) : Type 0 where
-  pub last-sheet : count cs .sheet ≡ lastPosted fresh unposted cs
-  pub last-month : count cs .told ≡ lastTold fresh 0 cs
+pub record CountIsLast (limit : ℕ) (cs : List Call) : Type 0 where
+  pub last-sheet : count cs .sheet ≡ lastPosted (fresh limit) unposted cs
+  pub last-month : count cs .told ≡ lastTold (fresh limit) 0 cs
 
 -- ═══ Demand 1: the result or the first ground that applies; a refusal changes nothing
 
@@ -73,6 +96,11 @@ abbrev pub vacant : Standing → Bool
 vacant none = true
 vacant (some c) = false
 
+-- a curve stands, and more months than the limit have been told since its own
+abbrev pub tooOld : Standing → ℕ → ℕ → Bool
+tooOld none told limit = false
+tooOld (some c) told limit = ltb limit (told - c .month)
+
 -- 1 to 6, each by itself; 7 to 10 are the curve's own
 unfoldable pub postGrounds : Book → List ℕ → List Applies
 postGrounds b s =
@@ -90,10 +118,19 @@ unfoldable pub turnGrounds : Book → ℕ → List Applies
 turnGrounds b m = when (ltb 2_399 m) monthAboveLast ∷ when (ltb m (b .told)) monthBeforeTold ∷ []
 
 unfoldable pub lookGrounds : Book → ℕ → List Applies
-lookGrounds b y = when (eqb y 0) yearOutside ∷ when (ltb 150 y) yearOutside ∷ when (vacant (b .standing)) noCurve ∷ []
+lookGrounds b y =
+    when (eqb y 0) yearOutside
+    ∷ when (ltb 150 y) yearOutside
+    ∷ when (vacant (b .standing)) noCurve
+    ∷ when (tooOld (b .standing) (b .told) (b .ageLimit)) ageAboveLimit
+    ∷ []
 
 unfoldable pub pageGrounds : Book → List ℕ → List Applies
-pageGrounds b l = when (vacant (b .standing)) noCurve ∷ when (ltb (length l) 1_505) bufferTooShort ∷ []
+pageGrounds b l =
+    when (vacant (b .standing)) noCurve
+    ∷ when (tooOld (b .standing) (b .told) (b .ageLimit)) ageAboveLimit
+    ∷ when (ltb (length l) 1_505) bufferTooShort
+    ∷ []
 
 -- what a look-up of a year has, where no ground applies
 abbrev pub foundIn : ℕ → Standing → ℕ → Finding
@@ -109,7 +146,7 @@ pub record Demand1 (b : Book) : Type 0 where
   pub post-refused : (s : List ℕ) (g : Ground) → post b s .answer ≡ refused g → post b s .book ≡ b
   pub turn-first : (m : ℕ) → turn b m .answer ≡ first (turnGrounds b m) (done m)
   pub turn-refused : (m : ℕ) (g : Ground) → turn b m .answer ≡ refused g → turn b m .book ≡ b
-  pub turn-told : (m k : ℕ) → turn b m .answer ≡ done k → turn b m .book ≡ record { told = m; standing = b .standing }
+  pub turn-told : (m k : ℕ) → turn b m .answer ≡ done k → turn b m .book ≡ record { ageLimit = b .ageLimit; told = m; standing = b .standing }
   pub look-first : (y : ℕ) → lookUp b y ≡ first (lookGrounds b y) (done (foundIn (b .told) (b .standing) y))
   pub page-first : (l : List ℕ) → page b l .answer ≡ first (pageGrounds b l) (done tt)
   pub page-refused : (l : List ℕ) (g : Ground) → page b l .answer ≡ refused g → page b l .buffer ≡ l
@@ -119,7 +156,7 @@ pub record Demand1 (b : Book) : Type 0 where
 
 -- the book with this curve in place of its own
 abbrev pub holding : Book → Curve → Book
-holding b c = record { told = b .told; standing = some c }
+holding b c = record { ageLimit = b .ageLimit; told = b .told; standing = some c }
 
 -- a sheet that passes 1 to 4, whose month is told and not before the standing one, and whose numbers work
 pub record Accepted (b : Book) (s : List ℕ) (c : Curve) : Type 0 where
@@ -147,5 +184,5 @@ pub record Demand2 (b : Book) : Type 0 where
   -- and nothing else is
   pub accepts-only : (s : List ℕ) (m : ℕ) → post b s .answer ≡ done m → (c : Curve) × Accepted b s c × (post b s .book ≡ holding b c) × (c .month ≡ m)
   pub pages :
-      (c : Curve) (l : List ℕ) → b .standing ≡ some c → CurveFits (b .told) c → 1_505 ≤ length l →
+      (c : Curve) (l : List ℕ) → b .standing ≡ some c → CurveFits (b .told) c → b .told - c .month ≤ b .ageLimit → 1_505 ≤ length l →
       PageWritten l (c .month) (b .told - c .month) (λ y. pair (lowOf c y) (highOf c y)) (page b l)

@@ -1,4 +1,4 @@
--- SPECIFICATION 8, demand 3: what a count tells of an answer. No book is named.
+-- SPECIFICATION 8, demand 3: what a count tells of an answer of a book that was made with an age limit. No book is named.
 use mathlib.Core.Path.{_≡_}
 use mathlib.Core.Logic.{_↔_}
 use mathlib.Core.List.{List}
@@ -7,7 +7,7 @@ use lib.IntN.{pos}
 use lib.ListN.{length, getD, drop}
 use Rattle.fraction.specs.Rounding.{Encloses}
 use Rattle.method.specs.Units.{Pair, pair}
-use Rattle.method.specs.Grounds.{Ground, yearOutside, noCurve, bufferTooShort, Outcome, refused, done}
+use Rattle.method.specs.Grounds.{Ground, yearOutside, noCurve, bufferTooShort, ageAboveLimit, Outcome, refused, done}
 use Rattle.method.specs.Curve.{Curve, answer}
 use Rattle.method.specs.Enclosure.{lowOf, highOf}
 use Rattle.method.specs.True.{trueCurve, trueFactor}
@@ -40,12 +40,14 @@ pub record Finds (c : Count) (s : List ℕ) (y : ℕ) (a : Outcome Finding) : Ty
   pub found : a ≡ done (finding (bandOf s y .low) (bandOf s y .high) (monthOf s) (c .told - monthOf s))
   pub band : Band s y (bandOf s y)
 
-pub record LookTells (c : Count) (y : ℕ) (a : Outcome Finding) : Type 0 where
+pub record LookTells (limit : ℕ) (c : Count) (y : ℕ) (a : Outcome Finding) : Type 0 where
   pub outside : (1 ≤ y → y ≤ 150 → ⊥) → a ≡ refused yearOutside
   -- no curve exactly when no post was accepted
   pub none-found : 1 ≤ y → y ≤ 150 → (a ≡ refused noCurve) ↔ (c .sheet ≡ unposted)
-  -- otherwise the last accepted sheet's band, month and age
-  pub finds : (s : List ℕ) → c .sheet ≡ posted s → 1 ≤ y → y ≤ 150 → Finds c s y a
+  -- otherwise the last accepted sheet's band, month and age, within the age limit
+  pub finds : (s : List ℕ) → c .sheet ≡ posted s → c .told - monthOf s ≤ limit → 1 ≤ y → y ≤ 150 → Finds c s y a
+  -- of an older curve the 16 alone
+  pub too-old : (s : List ℕ) → c .sheet ≡ posted s → limit < c .told - monthOf s → 1 ≤ y → y ≤ 150 → a ≡ refused ageAboveLimit
 
 -- ---- a page, as its reader finds it: record y starts at byte 5 + 10 × (y - 1), numbers have the high byte first
 
@@ -71,15 +73,19 @@ pub record PageWritten (l : List ℕ) (month age : ℕ) (band : ℕ → Pair) (p
   pub same-length : length (p .buffer) ≡ length l
   pub past-kept : drop 1_505 (p .buffer) ≡ drop 1_505 l
 
-pub record PageTells (c : Count) (l : List ℕ) (p : Paged) : Type 0 where
+pub record PageTells (limit : ℕ) (c : Count) (l : List ℕ) (p : Paged) : Type 0 where
   pub untouched : (g : Ground) → p .answer ≡ refused g → p .buffer ≡ l
   pub none-found : (p .answer ≡ refused noCurve) ↔ (c .sheet ≡ unposted)
-  pub too-short : (s : List ℕ) → c .sheet ≡ posted s → length l < 1_505 → p .answer ≡ refused bufferTooShort
-  pub writes : (s : List ℕ) → c .sheet ≡ posted s → 1_505 ≤ length l → PageWritten l (monthOf s) (c .told - monthOf s) (bandOf s) p
-  pub bands : (s : List ℕ) → c .sheet ≡ posted s → (y : ℕ) → 1 ≤ y → y ≤ 150 → Band s y (bandOf s y)
+  -- of an older curve the 16 alone, however long the buffer
+  pub too-old : (s : List ℕ) → c .sheet ≡ posted s → limit < c .told - monthOf s → p .answer ≡ refused ageAboveLimit
+  pub too-short : (s : List ℕ) → c .sheet ≡ posted s → c .told - monthOf s ≤ limit → length l < 1_505 → p .answer ≡ refused bufferTooShort
+  pub writes :
+      (s : List ℕ) → c .sheet ≡ posted s → c .told - monthOf s ≤ limit → 1_505 ≤ length l →
+      PageWritten l (monthOf s) (c .told - monthOf s) (bandOf s) p
+  pub bands : (s : List ℕ) → c .sheet ≡ posted s → c .told - monthOf s ≤ limit → (y : ℕ) → 1 ≤ y → y ≤ 150 → Band s y (bandOf s y)
 
 -- ---- any question
 
-abbrev pub Tells : Count → (q : Question) → AnswerTo q → Type 0
-Tells c (lookAt y) a = LookTells c y a
-Tells c (pageInto l) p = PageTells c l p
+abbrev pub Tells : ℕ → Count → (q : Question) → AnswerTo q → Type 0
+Tells limit c (lookAt y) a = LookTells limit c y a
+Tells limit c (pageInto l) p = PageTells limit c l p

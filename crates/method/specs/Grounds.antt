@@ -18,6 +18,7 @@ pub data Ground : Type 0 where
   yearOutside : Ground
   noCurve : Ground
   bufferTooShort : Ground
+  ageAboveLimit : Ground
 
 abbrev pub numberOf : Ground → ℕ
 numberOf wrongLength = 1
@@ -35,6 +36,7 @@ numberOf monthBeforeTold = 12
 numberOf yearOutside = 13
 numberOf noCurve = 14
 numberOf bufferTooShort = 15
+numberOf ageAboveLimit = 16
 
 -- a record from 1, a year, or 0 where none is named
 abbrev pub placeOf : Ground → ℕ
@@ -53,6 +55,7 @@ placeOf monthBeforeTold = 0
 placeOf yearOutside = 0
 placeOf noCurve = 0
 placeOf bufferTooShort = 0
+placeOf ageAboveLimit = 0
 
 -- ---- a result, or the first ground that applies
 

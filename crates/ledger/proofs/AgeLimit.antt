@@ -1,0 +1,159 @@
+-- A turn can close a curve, which the book still holds. And the age limit does nothing else: after the same calls, books of any two
+-- limits hold the same curve at the same month, so that openCurve alone can tell them apart.
+use mathlib.Core.Path.{_≡_, refl, ap, sym, _∙_}
+use mathlib.Core.Bool.{Bool, true, false, _&&_}
+use mathlib.Core.List.{List}
+use mathlib.Core.Logic.{_⊎_, inl, inr}
+use Prim.Native.Nat.{ℕ, _+_, _-_, _≤_, _<_, min}
+use native.Mathlib.Omega.{arith}
+use borrow.Author.Tests.{leb-true, le-leb}
+use lib.Dec.{leb}
+use lib.ListN.{length}
+use Rattle.method.specs.Grounds.{yearOutside, bufferTooShort, ageAboveLimit, refused, done, _>>=_, demand}
+use Rattle.method.specs.Curve.{Curve}
+use Rattle.method.proofs.Outcome.{split, bind-done, demand-done, done-injective, refused-not-done, both-true}
+use Rattle.ledger.specs.Answers.{Finding, answerNumber}
+use Rattle.ledger.specs.Book.{Standing, none, some, Book, postOutcome, post, withTold, turnOutcome, turn}
+use Rattle.ledger.specs.Book.{young, openCurve, yearInside, lookIn, pageOutcome, pagedBy, pageIn}
+use Rattle.ledger.specs.Calls.{Question, lookAt, pageInto, Call, asks, answered, answerOf}
+use Rattle.ledger.specs.Count.{Count, count}
+use Rattle.ledger.specs.Demands.{Closes, TurnCloses, OnlyCloses}
+use Rattle.ledger.proofs.Count.{bookOf}
+use Rattle.ledger.proofs.Asked.{closed-old, look-closed}
+use Rattle.ledger.proofs.Theorem.{run-is, run-sound}
+use Rattle.ledger.proofs.FirstGround.{posted-answer, turned-answer}
+
+-- ---- a turn closes a curve
+
+open-stands : (s : Standing) (told limit : ℕ) (c : Curve) → openCurve s told limit ≡ done c → s ≡ some c
+open-stands none told limit c e = absurd (refused-not-done e)
+open-stands (some d) told limit c e = ap some (done-injective (demand-done (young d told limit) ageAboveLimit _ e .1))
+
+-- a look-up that found something
+record Shown (s : Standing) (y : ℕ) (f : Finding) : Type 0 where
+  from-1 : 1 ≤ y
+  to-150 : y ≤ 150
+  curve : Curve
+  stands : s ≡ some curve
+  month-shown : f .month ≡ curve .month
+
+shown-by : (s : Standing) (told limit y : ℕ) (f : Finding) → lookIn s told limit y ≡ done f → Shown s y f
+unfolding lookIn
+shown-by s told limit y f e =
+    let inside = demand-done (yearInside y) yearOutside _ e in
+    let year = both-true (leb 1 y) (leb y 150) (inside .0) in
+    let opened = bind-done (openCurve s told limit) _ (inside .1) in
+    record {
+      from-1 = leb-true 1 y (year .0);
+      to-150 = leb-true y 150 (year .1);
+      curve = opened .0;
+      stands = open-stands s told limit (opened .0) (opened .1);
+      month-shown = ap (λ (g : Finding). g .month) (sym (done-injective (opened .2)));
+    }
+
+turn-closes-it : (b : Book) (y m : ℕ) (f : Finding) → Shown (b .standing) y f → b .told ≤ m → m ≤ 2_399 → f .month + b .ageLimit < m → Closes b y m
+unfolding turn turnOutcome
+turn-closes-it b y m f s to last older =
+    record {
+      accepted = rw turned;
+      still-held = rw turned;
+      closed = rw turned (look-closed (b .standing) m (b .ageLimit) y too-old (s .from-1) (s .to-150));
+    }
+  where
+    turned : turn b m ≡ record { book = withTold b m; answer = done m }
+    turned = rw (le-leb m 2_399 last, le-leb (b .told) m to)
+
+    too-old : openCurve (b .standing) m (b .ageLimit) ≡ refused ageAboveLimit
+    too-old = closed-old (b .standing) m (b .ageLimit) (s .curve) (s .stands) (omega (arith, older, s .month-shown))
+
+pub turn-closes : (b : Book) → TurnCloses b
+turn-closes b y m f e to last older =
+    turn-closes-it b y m f (shown-by (b .standing) (b .told) (b .ageLimit) y f e) to last older
+
+-- ---- and the limit does nothing else
+
+module _ (told : ℕ) (m : told ≤ 2_399) where
+  -- no age is above the largest limit
+  largest-opens : (c : Curve) → openCurve (some c) told 2_399 ≡ done c
+  largest-opens c = rw (le-leb (told - c .month) 2_399 (omega arith))
+
+  closed-or-open : (s : Standing) (limit : ℕ) → (openCurve s told limit ≡ refused ageAboveLimit) ⊎ (openCurve s told limit ≡ openCurve s told 2_399)
+  closed-or-open none limit = inr refl
+  closed-or-open (some c) limit = split (leb (told - c .month) limit) (λ q. inr (rw (q, largest-opens c))) (λ q. inl (rw q))
+
+  look-closed-or-same : (s : Standing) (limit y : ℕ) → (answerNumber (lookIn s told limit y) ≡ 16) ⊎ (lookIn s told limit y ≡ lookIn s told 2_399 y)
+  unfolding lookIn
+  look-closed-or-same s limit y = split (leb 1 y && leb y 150) (λ inside. go inside (closed-or-open s limit)) (λ outside. inr (rw outside))
+    where
+      go : (leb 1 y && leb y 150) ≡ true → (openCurve s told limit ≡ refused ageAboveLimit) ⊎ (openCurve s told limit ≡ openCurve s told 2_399) →
+          (answerNumber (lookIn s told limit y) ≡ 16) ⊎ (lookIn s told limit y ≡ lookIn s told 2_399 y)
+      go inside (inl e) = inl (rw (inside, e))
+      go inside (inr e) = inr (rw e)
+
+  page-closed-or-same :
+      (s : Standing) (limit : ℕ) (l : List ℕ) → (answerNumber (pageIn s told limit l .answer) ≡ 16) ⊎ (pageIn s told limit l ≡ pageIn s told 2_399 l)
+  unfolding pageOutcome
+  page-closed-or-same s limit l = go (closed-or-open s limit)
+    where
+      go : (openCurve s told limit ≡ refused ageAboveLimit) ⊎ (openCurve s told limit ≡ openCurve s told 2_399) →
+          (answerNumber (pageIn s told limit l .answer) ≡ 16) ⊎ (pageIn s told limit l ≡ pageIn s told 2_399 l)
+      go (inl e) = inl (rw e)
+      go (inr e) = inr (rw e)
+
+  -- 13, 14 or 0
+  look-never-closed : (s : Standing) (y : ℕ) → answerNumber (lookIn s told 2_399 y) ≡ 16 → ⊥
+  unfolding lookIn
+  look-never-closed s y e = go s (leb 1 y && leb y 150) _ e
+    where
+      go : (s : Standing) (inside : Bool) (found : Curve → Finding) →
+          answerNumber (demand inside yearOutside >>= (λ _. openCurve s told 2_399 >>= (λ c. done (found c)))) ≡ 16 → ⊥
+      go s false found e = omega (arith, e)
+      go none true found e = omega (arith, e)
+      go (some c) true found e = omega (arith, rw (largest-opens c) at e)
+
+  -- 14, 15 or 0
+  page-never-closed : (s : Standing) (l : List ℕ) → answerNumber (pageIn s told 2_399 l .answer) ≡ 16 → ⊥
+  unfolding pageOutcome
+  page-never-closed s l e = go s (leb 1_505 (length l)) _ e
+    where
+      written : (long : Bool) (out : List ℕ) → answerNumber (pagedBy l (demand long bufferTooShort >>= (λ _. done out)) .answer) ≡ 16 → ⊥
+      written true out e = omega (arith, e)
+      written false out e = omega (arith, e)
+
+      go : (s : Standing) (long : Bool) (over : Curve → List ℕ) →
+          answerNumber (pagedBy l (openCurve s told 2_399 >>= (λ c. demand long bufferTooShort >>= (λ _. done (over c)))) .answer) ≡ 16 → ⊥
+      go none long over e = omega (arith, e)
+      go (some c) long over e = written long (over c) (rw (largest-opens c) at e)
+
+-- whatever the limit, a post and a turn are answered by the told month and the curve alone
+same-posts-of : (limit : ℕ) (c : Count) (s : List ℕ) → post (bookOf limit c) s .answer ≡ post (bookOf 2_399 c) s .answer
+unfolding post postOutcome
+same-posts-of limit c s =
+    let o = postOutcome (bookOf limit c) s in
+    posted-answer (bookOf limit c) o ∙ sym (posted-answer (bookOf 2_399 c) o)
+
+same-turns-of : (limit : ℕ) (c : Count) (m : ℕ) → turn (bookOf limit c) m .answer ≡ turn (bookOf 2_399 c) m .answer
+unfolding turn turnOutcome
+same-turns-of limit c m =
+    let o = turnOutcome (bookOf limit c) m in
+    turned-answer (bookOf limit c) o ∙ sym (turned-answer (bookOf 2_399 c) o)
+
+question-closed-or-same : (limit : ℕ) (c : Count) → c .told ≤ 2_399 → (q : Question) →
+    (answerOf (bookOf limit c) (asks q) .number ≡ 16) ⊎ (answered (bookOf limit c) q ≡ answered (bookOf 2_399 c) q)
+question-closed-or-same limit c m (lookAt y) = look-closed-or-same (c .told) m _ limit y
+question-closed-or-same limit c m (pageInto l) = page-closed-or-same (c .told) m _ limit l
+
+question-never-closed : (c : Count) → c .told ≤ 2_399 → (q : Question) → answerOf (bookOf 2_399 c) (asks q) .number ≡ 16 → ⊥
+question-never-closed c m (lookAt y) e = look-never-closed (c .told) m _ y e
+question-never-closed c m (pageInto l) e = page-never-closed (c .told) m _ l e
+
+pub only-closes : (limit : ℕ) (cs : List Call) → OnlyCloses limit cs
+only-closes limit cs =
+    record {
+      same-standing = rw (run-is limit cs, run-is 2_399 cs);
+      same-told = rw (run-is limit cs, run-is 2_399 cs);
+      same-posts = rw (run-is limit cs, run-is 2_399 cs) (same-posts-of (min limit 2_399) (count cs));
+      same-turns = rw (run-is limit cs, run-is 2_399 cs) (same-turns-of (min limit 2_399) (count cs));
+      closed-or-same = rw (run-is limit cs, run-is 2_399 cs) (question-closed-or-same (min limit 2_399) (count cs) (run-sound cs .0));
+      largest-never-closes = rw (run-is 2_399 cs) (question-never-closed (count cs) (run-sound cs .0));
+    }
