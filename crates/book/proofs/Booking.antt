@@ -8,17 +8,18 @@ use Rattle.method.specs.Grounds.{Ground, afterToldMonth, beforeStandingCurve, m
 use Rattle.method.specs.Sheet.{Numbers, readSheet}
 use Rattle.method.specs.Curve.{Curve, curveOf}
 use Rattle.ledger.specs.Book as ledger
-use Rattle.ledger.specs.Book.{none, some, Booked, notBefore, postOutcome, post, turnOutcome, withTold, turn}
+use Rattle.ledger.specs.Book.{none, some, Booked, notBefore, postOutcome, post, turnOutcome, withTold, turn, openCurve}
 use Rattle.grounds.specs.declared.Ground as grounds
 use Rattle.grounds.specs.declared.Verdict.{Verdict}
 use Rattle.grounds.specs.declared.Verdict.the-variants.{Refused}
 use Rattle.grounds.specs.Verdicts.{asGround, asOutcome, resultOr}
+use Rattle.grounds.proofs.Chain.{at-verdict}
 use Rattle.curve.specs.declared.Curve as curve
 use Rattle.curve.specs.Curves.{asCurve}
 use Rattle.book.specs.declared.Book as code
 use Rattle.book.specs.declared.Booked as reply
 use Rattle.book.specs.Views.{asStanding, asBook, asBooked}
-use Rattle.book.specs.Steps.{posted, afterReading}
+use Rattle.book.specs.Steps.{posted, afterReading, Opens}
 
 -- ---- a call that is turned down
 
@@ -50,6 +51,12 @@ stands has c e = rw (so has e)
 
 pub vacant : (has : Bool) (c : curve.Curve) → not has ≡ true → asStanding has c ≡ none
 vacant has c e = rw (not-so has e)
+
+-- ---- what was asked of the curve: w is what a match found the verdict to be
+
+pub asked : (has : Bool) (c : curve.Curve) (told limit : ℕ) {v w : Verdict} → Opens has (c .month) told limit v → v ≡ w →
+    openCurve (asStanding has c) told limit ≡ asOutcome w (asCurve c)
+asked has c told limit opens e = at-verdict (asCurve c) e (opens c refl)
 
 -- ---- post
 

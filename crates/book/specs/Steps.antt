@@ -1,4 +1,6 @@
 -- The parts of a post and of a look-up that the functions between cite.
+use mathlib.Core.Bool.{Bool}
+use mathlib.Core.Path.{_≡_}
 use Prim.Native.Nat.{ℕ}
 use lib.Dec.{leb}
 use Rattle.method.specs.Grounds.{afterToldMonth, beforeStandingCurve, Outcome, _>>=_, demand}
@@ -6,7 +8,12 @@ use Rattle.method.specs.Sheet.{Numbers}
 use Rattle.method.specs.Curve.{Curve, curveOf}
 use Rattle.method.specs.Enclosure.{lowOf, highOf}
 use Rattle.ledger.specs.Answers.{Finding, finding}
-use Rattle.ledger.specs.Book.{Book, Booked, booked, notBefore, withCurve, age}
+use Rattle.ledger.specs.Book.{Book, Booked, booked, notBefore, withCurve, age, openCurve}
+use Rattle.grounds.specs.declared.Verdict.{Verdict}
+use Rattle.grounds.specs.Verdicts.{asOutcome}
+use Rattle.curve.specs.declared.Curve as code
+use Rattle.curve.specs.Curves.{asCurve}
+use Rattle.book.specs.Views.{asStanding}
 
 -- what a book makes of the numbers of a sheet that was read: 5 and 6, then 7 to 10
 abbrev pub afterReading : Book → Numbers → Outcome Curve
@@ -18,6 +25,10 @@ afterReading b n = do
 abbrev pub posted : Book → Outcome Curve → Booked
 posted b o = booked b (withCurve b) (λ c. c .month) o
 
+-- whether a curve may be shown, for which its month is all that counts: 14, then 16
+abbrev pub Opens : Bool → ℕ → ℕ → ℕ → Verdict → Type 0
+Opens has month told limit v = (c : code.Curve) → c .month ≡ month → asOutcome v (asCurve c) ≡ openCurve (asStanding has c) told limit
+
 -- what a curve has for a year
-abbrev pub foundAt : Book → Curve → ℕ → Finding
-foundAt b c y = finding (lowOf c y) (highOf c y) (c .month) (age b c)
+abbrev pub foundAt : Curve → ℕ → ℕ → Finding
+foundAt c told y = finding (lowOf c y) (highOf c y) (c .month) (age told c)

@@ -20,7 +20,7 @@ asStanding true c = some (asCurve c)
 asStanding false c = none
 
 abbrev pub asBook : Book → ledger.Book
-asBook b = record { told = b .told; standing = asStanding (b .has) (b .curve) }
+asBook b = record { ageLimit = b .«age_limit»; told = b .told; standing = asStanding (b .has) (b .curve) }
 
 abbrev pub asBooked : Booked → ledger.Booked
 asBooked r = record { book = asBook (r .book); answer = asOutcome (r .verdict) (r .month) }

@@ -1,5 +1,5 @@
-// The dated curve book: the curve of the last accepted sheet, and the told month. No other crate can build a book or read
-// one, so each came from a list of calls that began with `fresh`.
+// The dated curve book: its age limit, the told month, and the curve of the last accepted sheet. No other crate can build a book or
+// read one, so each came from a list of calls that began with `fresh`.
 mod page_bytes;
 
 use curve::Curve;
@@ -8,19 +8,22 @@ use grounds::Ground;
 use grounds::Verdict;
 use sheet::Numbers;
 ghost use mathlib.Core.Path.{_≡_};
-ghost use Prim.Native.Nat.{_≤_};
+ghost use Prim.Native.Nat.{_-_, _≤_, min};
 ghost use Rattle.method.specs.Grounds.{done};
 ghost use Rattle.method.specs.Ranges.{NumbersInRange};
-ghost use Rattle.ledger.specs.Book.{fresh, notBefore, withTold, age, post, turn, lookUp, page};
+ghost use Rattle.ledger.specs.Book.{largestAgeLimit, fresh, notBefore, withTold, post, turn, lookIn, lookUp, pageIn, page};
 ghost use Rattle.grounds.specs.Verdicts.{asOutcome, resultOr};
-ghost use Rattle.grounds.specs.declared.Verdict.the-variants.{Refused};
 ghost use Rattle.sheet.specs.Views.{asNumbers};
 ghost use Rattle.curve.specs.Curves.{asCurve};
 ghost use Rattle.book.specs.Views.{asStanding, asBook, asBooked, asFinding, noFinding, asPaged};
-ghost use Rattle.book.specs.Steps.{posted, afterReading, foundAt};
+ghost use Rattle.book.specs.Steps.{posted, afterReading, Opens, foundAt};
+
+// No curve can be older, as no month after 2,399 can be told.
+pub const LARGEST_AGE_LIMIT: u64 = 2_399;
 
 // Without `has` the curve is all zero and stands for none.
 pub struct Book {
+    age_limit: u64,
     told: u64,
     has: bool,
     curve: Curve,
@@ -46,10 +49,22 @@ pub struct Looked {
     pub finding: Finding,
 }
 
-pub fn fresh() -> Book
-    ensures { λ r. ⌜ asBook r ≡ fresh ⌝ }
+fn cut(age_limit: u64) -> u64
+    ensures { λ r. ⌜ r ≡ min «age_limit» largestAgeLimit ⌝ }
+{
+    if age_limit < LARGEST_AGE_LIMIT {
+        age_limit
+    } else {
+        LARGEST_AGE_LIMIT
+    }
+}
+
+// Any number makes a book; one above the largest limit, a book with that.
+pub fn fresh(age_limit: u64) -> Book
+    ensures { λ r. ⌜ asBook r ≡ fresh «age_limit» ⌝ }
 {
     Book {
+        age_limit: cut(age_limit),
         told: 0,
         has: false,
         curve: Curve {
@@ -88,6 +103,7 @@ fn accepted(book: Book, curve: Curve) -> Booked
         verdict: Verdict::Passed,
         month: month,
         book: Book {
+            age_limit: book.age_limit,
             told: book.told,
             has: true,
             curve: curve,
@@ -164,39 +180,51 @@ pub fn turn(book: Book, month: u64) -> Booked
     }
 }
 
-// ---- look-up
+// ---- what may be shown of a curve
 
 // Told month less sheet month.
-fn age(book: Book) -> u64
-    ensures { λ r. ⌜ r ≡ age (asBook book) (asCurve (book .curve)) ⌝ }
+fn age(told: u64, month: u64) -> u64
+    ensures { λ r. ⌜ r ≡ told - month ⌝ }
 {
-    let told = book.told;
-    let month = book.curve.month;
     if month <= told { told - month } else { 0 }
 }
 
-// What the curve has for a year.
-fn found(book: Book, year: u64) -> Finding
-    requires { ⌜ (1 ≤ year) × (year ≤ 150) ⌝ }
-    ensures { λ r. ⌜ asFinding r ≡ foundAt (asBook book) (asCurve (book .curve)) year ⌝ }
+// 14 while no curve stands, 16 where it is older than the limit.
+fn opens(has: bool, month: u64, told: u64, age_limit: u64) -> Verdict
+    ensures { λ r. ⌜ Opens has month told «age_limit» r ⌝ }
 {
-    let curve = book.curve;
+    if !has {
+        return Verdict::Refused(Ground::NoCurve);
+    }
+    if age(told, month) <= age_limit {
+        return Verdict::Passed;
+    }
+    Verdict::Refused(Ground::AgeAboveLimit)
+}
+
+// ---- look-up
+
+// What the curve has for a year.
+fn found(curve: Curve, told: u64, year: u64) -> Finding
+    requires { ⌜ (1 ≤ year) × (year ≤ 150) ⌝ }
+    ensures { λ r. ⌜ asFinding r ≡ foundAt (asCurve curve) told year ⌝ }
+{
     let years = curve.years;
     let i = (year - 1) as usize;
     Finding {
         low: years.lows[i],
         high: years.highs[i],
         month: curve.month,
-        age: age(book),
+        age: age(told, curve.month),
     }
 }
 
-fn not_found(ground: Ground) -> Looked
-    ensures verdict { λ r. ⌜ r .verdict ≡ Refused ground ⌝ }
+fn not_found(verdict: Verdict) -> Looked
+    ensures verdict { λ r. ⌜ r .verdict ≡ verdict ⌝ }
     ensures beside { λ r. ⌜ asFinding (r .finding) ≡ noFinding ⌝ }
 {
     Looked {
-        verdict: Verdict::Refused(ground),
+        verdict: verdict,
         finding: Finding {
             low: 0,
             high: 0,
@@ -206,39 +234,56 @@ fn not_found(ground: Ground) -> Looked
     }
 }
 
+// Of any curve, or none.
+fn look_in(has: bool, curve: Curve, told: u64, age_limit: u64, year: u64) -> Looked
+    ensures outcome { λ r. ⌜ asOutcome (r .verdict) (asFinding (r .finding)) ≡ lookIn (asStanding has curve) told «age_limit» year ⌝ }
+    ensures beside { λ r. ⌜ asFinding (r .finding) ≡ resultOr noFinding (lookIn (asStanding has curve) told «age_limit» year) ⌝ }
+{
+    if year < 1 {
+        return not_found(Verdict::Refused(Ground::YearOutside));
+    }
+    if 150 < year {
+        return not_found(Verdict::Refused(Ground::YearOutside));
+    }
+    let verdict = opens(has, curve.month, told, age_limit);
+    let Verdict::Passed = verdict else {
+        return not_found(verdict);
+    };
+    Looked {
+        verdict: Verdict::Passed,
+        finding: found(curve, told, year),
+    }
+}
+
 pub fn look_up(book: Book, year: u64) -> Looked
     ensures outcome { λ r. ⌜ asOutcome (r .verdict) (asFinding (r .finding)) ≡ lookUp (asBook book) year ⌝ }
     ensures beside { λ r. ⌜ asFinding (r .finding) ≡ resultOr noFinding (lookUp (asBook book) year) ⌝ }
 {
-    if year < 1 {
-        return not_found(Ground::YearOutside);
-    }
-    if 150 < year {
-        return not_found(Ground::YearOutside);
-    }
-    let has = book.has;
-    if !has {
-        return not_found(Ground::NoCurve);
-    }
-    Looked {
-        verdict: Verdict::Passed,
-        finding: found(book, year),
-    }
+    let curve = book.curve;
+    look_in(book.has, curve, book.told, book.age_limit, year)
 }
 
 // ---- page
 
-pub fn page(book: Book, out: &mut [u8]) -> Verdict
-    ensures { λ r. ⌜ asPaged r (now (out .exit)) ≡ page (asBook book) (now (out .entry)) ⌝ }
+// Of any curve, or none.
+fn page_in(has: bool, curve: Curve, told: u64, age_limit: u64, out: &mut [u8]) -> Verdict
+    ensures { λ r. ⌜ asPaged r (now (out .exit)) ≡ pageIn (asStanding has curve) told «age_limit» (now (out .entry)) ⌝ }
 {
-    if !book.has {
-        return Verdict::Refused(Ground::NoCurve);
-    }
+    let verdict = opens(has, curve.month, told, age_limit);
+    let Verdict::Passed = verdict else {
+        return verdict;
+    };
     if out.len() < 1_505 {
         return Verdict::Refused(Ground::BufferTooShort);
     }
-    let curve = book.curve;
     let years = curve.years;
-    page_bytes::write(curve.month, age(book), years, out);
+    page_bytes::write(curve.month, age(told, curve.month), years, out);
     Verdict::Passed
+}
+
+pub fn page(book: Book, out: &mut [u8]) -> Verdict
+    ensures { λ r. ⌜ asPaged r (now (out .exit)) ≡ page (asBook book) (now (out .entry)) ⌝ }
+{
+    let curve = book.curve;
+    page_in(book.has, curve, book.told, book.age_limit, out)
 }

@@ -23,6 +23,7 @@ asGround code.MonthBeforeTold = method.monthBeforeTold
 asGround code.YearOutside = method.yearOutside
 asGround code.NoCurve = method.noCurve
 asGround code.BufferTooShort = method.bufferTooShort
+asGround code.AgeAboveLimit = method.ageAboveLimit
 
 abbrev pub asOutcome : {A : Type 0} → Verdict → A → Outcome A
 asOutcome Passed a = done a

@@ -20,6 +20,7 @@ pub enum Ground {
     YearOutside,
     NoCurve,
     BufferTooShort,
+    AgeAboveLimit,
 }
 
 pub enum Verdict {
@@ -46,6 +47,7 @@ fn ground_number(g: Ground) -> u64
         Ground::YearOutside => 13,
         Ground::NoCurve => 14,
         Ground::BufferTooShort => 15,
+        Ground::AgeAboveLimit => 16,
     }
 }
 
@@ -68,6 +70,7 @@ fn ground_place(g: Ground) -> u64
         Ground::YearOutside => 0,
         Ground::NoCurve => 0,
         Ground::BufferTooShort => 0,
+        Ground::AgeAboveLimit => 0,
     }
 }
 
