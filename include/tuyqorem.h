@@ -7,16 +7,20 @@
  * Numbers have the high byte first. Reading stops at an unknown kind or a cut body, so every journal means some list of
  * calls, which is run from a fresh book. Nothing is kept between two of these calls.
  *
- * This is the interface from the phase-in (U1) on, in which a sheet may have 112 bytes; its functions are those of the base.
- * Later ones insert parameters and lengthen replies, so a program is compiled with the header of the library that it is
- * linked with.
+ * The book is made with an age limit in months, age_limit: any number, of which one above 2,399 makes a book with 2,399. A
+ * curve that is older than the limit is turned away with 16 and not shown. The book still holds it: posts and turns are
+ * answered as with any other limit.
  *
- * It is proved of tuyqorem_look_after and tuyqorem_page_after, for every journal: no curve is found exactly when no post
- * of the journal was accepted; otherwise month and age are those of the last accepted sheet and turn, and each band is
- * within that sheet's limit and holds the true factor of every order.
+ * This is the interface from the age limit (U2) on: age_limit is the first parameter of every function. Later ones insert
+ * parameters and lengthen replies, so a program is compiled with the header of the library that it is linked with.
  *
- * It is proved of tuyqorem_answer_after, for every journal and every call: the answer is exactly the one that the
- * definitions give to that call on the book of the journal.
+ * It is proved of tuyqorem_look_after and tuyqorem_page_after, for every age limit and every journal: no curve is found
+ * exactly when no post of the journal was accepted; a curve older than the limit answers 16; otherwise month and age are
+ * those of the last accepted sheet and turn, and each band is within that sheet's limit and holds the true factor of every
+ * order.
+ *
+ * It is proved of tuyqorem_answer_after, for every age limit, every journal and every call: the answer is exactly the one
+ * that the definitions give to that call on the book of the journal.
  *
  * A buffer may not overlap the journal.
  */
@@ -32,20 +36,24 @@ extern "C" {
 
 /* The band of a year after the journal's calls. Returns 0 and writes 12 bytes to out: low (4), high (4), sheet month (2),
  * age in months (2), high byte first; the bytes of out past them are kept. Otherwise out is left as it was and the
- * answer is 13 (the year is not 1 to 150), 14 (no curve) or 15 (out has fewer than 12 bytes). */
-uint64_t tuyqorem_look_after(const uint8_t *calls, size_t calls_len, uint64_t year, uint8_t *out, size_t out_len);
+ * answer is, tried in this order, 13 (the year is not 1 to 150), 14 (no curve), 16 (the curve is older than the age limit)
+ * or 15 (out has fewer than 12 bytes). */
+uint64_t tuyqorem_look_after(uint64_t age_limit, const uint8_t *calls, size_t calls_len, uint64_t year, uint8_t *out,
+                             size_t out_len);
 
 /* The page after the journal's calls. Returns 0 and writes 1,505 bytes to out: 0x48, sheet month (2), age (2); then for
  * years 1 to 150 0x59, year (1), low (4), high (4). The bytes of out past them are kept. Otherwise out is left as it was
- * and the answer is 14 (no curve) or 15 (out has fewer than 1,505 bytes). */
-uint64_t tuyqorem_page_after(const uint8_t *calls, size_t calls_len, uint8_t *out, size_t out_len);
+ * and the answer is, tried in this order, 14 (no curve), 16 (the curve is older than the age limit) or 15 (out has fewer
+ * than 1,505 bytes). */
+uint64_t tuyqorem_page_after(uint64_t age_limit, const uint8_t *calls, size_t calls_len, uint8_t *out, size_t out_len);
 
 /* The answer that one more call gets after the journal's calls: for programs that keep a journal and must say why a sheet
  * was turned down. The call is the first record of call, written as in a journal; the bytes past it are ignored. Returns
- * 0 where it is accepted. Otherwise the answer is number + 256 * place: the number, 1 to 14, of the first ground that
+ * 0 where it is accepted. Otherwise the answer is number + 256 * place: the number, 1 to 14 or 16, of the first ground that
  * applies (docs/SPECIFICATION.md, section 9), and the record, year or maturity that it names, 0 where it names none; or
  * 255, where call starts with no whole record: it is empty, its kind is unknown or its body is cut. */
-uint64_t tuyqorem_answer_after(const uint8_t *calls, size_t calls_len, const uint8_t *call, size_t call_len);
+uint64_t tuyqorem_answer_after(uint64_t age_limit, const uint8_t *calls, size_t calls_len, const uint8_t *call,
+                               size_t call_len);
 
 #ifdef __cplusplus
 }

@@ -5,14 +5,14 @@ use Prim.Native.Nat.{ℕ}
 use lib.ListN.{replicate}
 use Rattle.method.specs.Figures.{rateRecords, volumeRecords, zeroSheet}
 use Rattle.method.proofs.Computes.{computes}
-use Rattle.ledger.specs.Book.{post, postOutcome, turn, turnOutcome, lookUp}
+use Rattle.ledger.specs.Book.{post, postOutcome, turn, turnOutcome, lookIn}
 use Rattle.journal.specs.Journal.{front}
 use Rattle.desk_core.specs.Lines.{digitsTo}
 use Rattle.desk_core.specs.Desk.{printedFrom, printed}
 
 -- opens what the examples compute with
 opens : ℕ
-unfolding computes rateRecords volumeRecords post postOutcome turn turnOutcome lookUp front digitsTo printedFrom printed
+unfolding computes rateRecords volumeRecords post postOutcome turn turnOutcome lookIn front digitsTo printedFrom printed
 opens = 0
 
 -- ---- the specification's

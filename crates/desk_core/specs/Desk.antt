@@ -5,7 +5,7 @@ use mathlib.Core.List.{List, [], _∷_, _++_}
 use Prim.Native.Nat.{ℕ, zero, suc, _+_, _-_, _≤_, _<_}
 use lib.Dec.{leb, eqb}
 use lib.ListN.{length, drop}
-use Rattle.ledger.specs.Book.{Book, fresh}
+use Rattle.ledger.specs.Book.{Book, largestAgeLimit, fresh}
 use Rattle.ledger.specs.Calls.{after}
 use Rattle.journal.specs.Journal.{Front, whole, cut, unknown, front}
 use Rattle.journal.specs.Replies.{replyTo}
@@ -32,9 +32,13 @@ unfoldable pub printedFrom : ℕ → Book → ℕ → List ℕ → List ℕ
 printedFrom zero b offset s = []
 printedFrom (suc most) b offset s = printedAt (front s) b offset s (printedFrom most)
 
+-- a fresh book with the largest age limit
+abbrev pub deskBook : Book
+deskBook = fresh largestAgeLimit
+
 -- all of them: each record takes at least a byte
 unfoldable pub printed : List ℕ → List ℕ
-printed input = printedFrom (length input) fresh 0 input
+printed input = printedFrom (length input) deskBook 0 input
 
 -- ═══ One pass: the whole records at the front of the bytes that are held, while the text has room for one line more
 
@@ -79,7 +83,7 @@ pub record Desk : Type 0 where
   pub held : List ℕ
 
 abbrev pub opened : Desk
-opened = record { book = fresh; offset = 0; held = [] }
+opened = record { book = deskBook; offset = 0; held = [] }
 
 abbrev pub pass : ℕ → Desk → Serving
 pass room d = served room (d .book) (d .held)

@@ -136,7 +136,7 @@ fn opened() -> Desk
     ensures { λ r. ⌜ Opens r ⌝ }
 {
     Desk {
-        book: book::fresh(),
+        book: book::fresh(book::LARGEST_AGE_LIMIT),
         offset: 0,
         held: 0,
     }

@@ -58,7 +58,7 @@ stopped b unknown calls s h e = (refl, refl)
 none-left : (most : ℕ) (s : List ℕ) → taken (front s) ≡ 0 → decodeFrom most s ≡ []
 unfolding decodeFrom
 none-left zero s h = refl
-none-left (suc most) s h = stopped fresh (front s) (decodeFrom most) s (front-some s) h .0
+none-left (suc most) s h = stopped (fresh 0) (front s) (decodeFrom most) s (front-some s) h .0
 
 first : (b : Book) (f : Front) (calls : List ℕ → List Call) (s : List ℕ) → 0 < taken f →
     runFrom b (andThen f calls s) ≡ runFrom (bookAfter b f) (calls (drop (taken f) s))
@@ -77,11 +77,11 @@ one-made b (suc most) s h t =
 -- ---- at a place
 
 -- the book before the call there, from which the rest of the calls leads to the last book
-pub record Reached (calls : List ℕ) (b : Book) (at : ℕ) : Type 0 where
+pub record Reached (limit : ℕ) (calls : List ℕ) (b : Book) (at : ℕ) : Type 0 where
   pub most : ℕ
   pub within : at ≤ length calls
   pub enough : length calls - at ≤ most
-  pub runs : run (decode calls) ≡ runFrom b (decodeFrom most (drop at calls))
+  pub runs : run limit (decode calls) ≡ runFrom b (decodeFrom most (drop at calls))
 
 -- the part of the bytes from a place on, as it is lent
 abbrev pub lent : List ℕ → ℕ → List ℕ
@@ -90,28 +90,28 @@ lent calls at = take (length calls - at) (drop at calls)
 pub lent-rest : (calls : List ℕ) (at : ℕ) → lent calls at ≡ drop at calls
 lent-rest calls at = take-all (length calls - at) (drop at calls) (omega (arith, length-drop at calls))
 
-pub begins : (calls : List ℕ) → Reached calls fresh 0
+pub begins : (limit : ℕ) (calls : List ℕ) → Reached limit calls (fresh limit) 0
 unfolding decode
-begins calls = record { most = length calls; within = omega arith; enough = omega arith; runs = refl }
+begins limit calls = record { most = length calls; within = omega arith; enough = omega arith; runs = refl }
 
-module _ (calls : List ℕ) (b : Book) (at : ℕ) (x : Reached calls b at) where
-  stopped-at : taken (front (drop at calls)) ≡ 0 → b ≡ run (decode calls)
+module _ (limit : ℕ) (calls : List ℕ) (b : Book) (at : ℕ) (x : Reached limit calls b at) where
+  stopped-at : taken (front (drop at calls)) ≡ 0 → b ≡ run limit (decode calls)
   stopped-at h = sym (x .runs ∙ ap (runFrom b) (none-left (x .most) (drop at calls) h))
 
-  pub ends : length calls ≤ at → b ≡ run (decode calls)
+  pub ends : length calls ≤ at → b ≡ run limit (decode calls)
   ends h = stopped-at (rw (front-end (drop at calls) (omega (arith, length-drop at calls))))
 
   module _ (r : Made) (m : Makes b (lent calls at) r) where
     made : Makes b (drop at calls) r
     made = rw (lent-rest calls at) at m
 
-    pub stops-here : r .taken ≡ 0 → asBook (r .book) ≡ run (decode calls)
+    pub stops-here : r .taken ≡ 0 → asBook (r .book) ≡ run limit (decode calls)
     stops-here h =
         let rest = drop at calls in
         let t : taken (front rest) ≡ 0 = sym (made .bytes) ∙ h in
         made .book ∙ stopped b (front rest) (λ l. []) rest (front-some rest) t .1 ∙ stopped-at t
 
-    pub goes-on : at < length calls → 0 < r .taken → Reached calls (asBook (r .book)) (at + r .taken)
+    pub goes-on : at < length calls → 0 < r .taken → Reached limit calls (asBook (r .book)) (at + r .taken)
     goes-on h t =
         let d = made in
         let n = length-drop at calls in

@@ -12,9 +12,9 @@ use Rattle.ledger.specs.Calls.{run}
 use Rattle.journal.specs.Journal.{decode}
 use Rattle.journal.specs.Replies.{Reply, posted, turned, looked, cutShort, notKnown}
 
--- the book after the calls of a journal
-abbrev pub bookAfter : List ℕ → Book
-bookAfter journal = run (decode journal)
+-- the book after the calls of a journal, made with an age limit
+abbrev pub bookAfter : ℕ → List ℕ → Book
+bookAfter limit journal = run limit (decode journal)
 
 pub record Returned : Type 0 where
   pub answer : ℕ

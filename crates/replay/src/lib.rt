@@ -1,4 +1,4 @@
-// The book after the calls of a journal, and what is then answered: for programs in Rattle, and in C by include/tuyqorem.h.
+// The book after the calls of a journal, made with an age limit, and what is then answered: for programs in Rattle, and in C by include/tuyqorem.h.
 use big_endian::byte;
 use book::Book;
 use book::Finding;
@@ -18,11 +18,11 @@ ghost use Rattle.journal.specs.Journal.{front, decode};
 ghost use Rattle.journal.specs.Replies.{replyTo};
 ghost use Rattle.replay.specs.Returned.{bookAfter, foundBytes, returned, lookReturned, pageReturned, replied};
 
-// Makes all calls, from a fresh book on.
-fn replay(calls: &[u8]) -> Book
-    ensures { λ r. ⌜ asBook r ≡ bookAfter (now (calls .entry)) ⌝ }
+// Makes all calls, from a fresh book of this age limit on.
+fn replay(age_limit: u64, calls: &[u8]) -> Book
+    ensures { λ r. ⌜ asBook r ≡ bookAfter «age_limit» (now (calls .entry)) ⌝ }
 {
-    let mut book = book::fresh();
+    let mut book = book::fresh(age_limit);
     let mut at: usize = 0;
     while at < calls.len() {
         let made = journal::make(book, &calls[at..]);
@@ -37,20 +37,20 @@ fn replay(calls: &[u8]) -> Book
 }
 
 // What a look-up answers after these calls.
-pub fn look_after(calls: &[u8], year: u64) -> Looked
-    ensures outcome { λ r. ⌜ asOutcome (r .verdict) (asFinding (r .finding)) ≡ lookUp (bookAfter (now (calls .entry))) year ⌝ }
-    ensures beside { λ r. ⌜ asFinding (r .finding) ≡ resultOr noFinding (lookUp (bookAfter (now (calls .entry))) year) ⌝ }
-    ensures told { λ r. ⌜ Tells (count (decode (now (calls .entry)))) (lookAt year) (asOutcome (r .verdict) (asFinding (r .finding))) ⌝ }
+pub fn look_after(age_limit: u64, calls: &[u8], year: u64) -> Looked
+    ensures outcome { λ r. ⌜ asOutcome (r .verdict) (asFinding (r .finding)) ≡ lookUp (bookAfter «age_limit» (now (calls .entry))) year ⌝ }
+    ensures beside { λ r. ⌜ asFinding (r .finding) ≡ resultOr noFinding (lookUp (bookAfter «age_limit» (now (calls .entry))) year) ⌝ }
+    ensures told { λ r. ⌜ Tells «age_limit» (count (decode (now (calls .entry)))) (lookAt year) (asOutcome (r .verdict) (asFinding (r .finding))) ⌝ }
 {
-    book::look_up(replay(calls), year)
+    book::look_up(replay(age_limit, calls), year)
 }
 
 // The page after these calls, written into a lent buffer.
-pub fn page_after(calls: &[u8], out: &mut [u8]) -> Verdict
-    ensures paged { λ r. ⌜ asPaged r (now (out .exit)) ≡ page (bookAfter (now (calls .entry))) (now (out .entry)) ⌝ }
-    ensures told { λ r. ⌜ Tells (count (decode (now (calls .entry)))) (pageInto (now (out .entry))) (asPaged r (now (out .exit))) ⌝ }
+pub fn page_after(age_limit: u64, calls: &[u8], out: &mut [u8]) -> Verdict
+    ensures paged { λ r. ⌜ asPaged r (now (out .exit)) ≡ page (bookAfter «age_limit» (now (calls .entry))) (now (out .entry)) ⌝ }
+    ensures told { λ r. ⌜ Tells «age_limit» (count (decode (now (calls .entry)))) (pageInto (now (out .entry))) (asPaged r (now (out .exit))) ⌝ }
 {
-    let book = replay(calls);
+    let book = replay(age_limit, calls);
     book::page(book, out)
 }
 
@@ -85,11 +85,16 @@ fn packed(verdict: Verdict) -> u64
 
 // A buffer that is too short is tried last.
 #[no_mangle]
-pub extern "C" fn tuyqorem_look_after(calls: &[u8], year: u64, out: &mut [u8]) -> u64
-    ensures returned { λ r. ⌜ returned r (now (out .exit)) ≡ lookReturned (lookUp (bookAfter (now (calls .entry))) year) (now (out .entry)) ⌝ }
-    ensures told { λ _. ⌜ Demand3 (decode (now (calls .entry))) ⌝ }
+pub extern "C" fn tuyqorem_look_after(
+    age_limit: u64,
+    calls: &[u8],
+    year: u64,
+    out: &mut [u8],
+) -> u64
+    ensures returned { λ r. ⌜ returned r (now (out .exit)) ≡ lookReturned (lookUp (bookAfter «age_limit» (now (calls .entry))) year) (now (out .entry)) ⌝ }
+    ensures told { λ _. ⌜ Demand3 «age_limit» (decode (now (calls .entry))) ⌝ }
 {
-    let looked = look_after(calls, year);
+    let looked = look_after(age_limit, calls, year);
     let verdict = looked.verdict;
     let Verdict::Passed = verdict else {
         return packed(verdict);
@@ -104,19 +109,19 @@ pub extern "C" fn tuyqorem_look_after(calls: &[u8], year: u64, out: &mut [u8]) -
 }
 
 #[no_mangle]
-pub extern "C" fn tuyqorem_page_after(calls: &[u8], out: &mut [u8]) -> u64
-    ensures returned { λ r. ⌜ returned r (now (out .exit)) ≡ pageReturned (page (bookAfter (now (calls .entry))) (now (out .entry))) ⌝ }
-    ensures told { λ _. ⌜ Demand3 (decode (now (calls .entry))) ⌝ }
+pub extern "C" fn tuyqorem_page_after(age_limit: u64, calls: &[u8], out: &mut [u8]) -> u64
+    ensures returned { λ r. ⌜ returned r (now (out .exit)) ≡ pageReturned (page (bookAfter «age_limit» (now (calls .entry))) (now (out .entry))) ⌝ }
+    ensures told { λ _. ⌜ Demand3 «age_limit» (decode (now (calls .entry))) ⌝ }
 {
-    packed(page_after(calls, out))
+    packed(page_after(age_limit, calls, out))
 }
 
 // The answer of one more call, the first record of `call`; 255 where that is no whole record.
 #[no_mangle]
-pub extern "C" fn tuyqorem_answer_after(calls: &[u8], call: &[u8]) -> u64
-    ensures { λ r. ⌜ r ≡ replied (replyTo (bookAfter (now (calls .entry))) (front (now (call .entry)))) ⌝ }
+pub extern "C" fn tuyqorem_answer_after(age_limit: u64, calls: &[u8], call: &[u8]) -> u64
+    ensures { λ r. ⌜ r ≡ replied (replyTo (bookAfter «age_limit» (now (calls .entry))) (front (now (call .entry)))) ⌝ }
 {
-    let made = journal::make(replay(calls), call);
+    let made = journal::make(replay(age_limit, calls), call);
     let reply = made.reply;
     let verdict = made.verdict;
     match reply {

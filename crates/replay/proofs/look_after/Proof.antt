@@ -29,7 +29,8 @@ returns c =
     let cs = decode (now (a .calls)) in
     let outcome = looked .0 ∙ ap (λ (b : Book). lookUp b (a .year)) book in
     let beside = looked .1 ∙ ap (λ (b : Book). resultOr noFinding (lookUp b (a .year))) book in
-    (outcome, (beside, subst⁻¹ (λ (o : Outcome Finding). LookTells (count cs) (a .year) o) outcome (demand-3 cs (lookAt (a .year)))))
+    let told = demand-3 (a .age-limit) cs (lookAt (a .year)) in
+    (outcome, (beside, subst⁻¹ (λ (o : Outcome Finding). LookTells (a .age-limit) (count cs) (a .year) o) outcome told))
 
 pub look-after-spec : {M : Type 1} → statement M
 look-after-spec = tie.close (tie.spec replay-requires look-up-requires returns)

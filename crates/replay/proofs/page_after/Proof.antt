@@ -28,7 +28,7 @@ returns c =
     let cs = decode (now (a .calls)) in
     let lent = now (a .out) in
     let paged = at-page .page .ensures ∙ ap (λ (b : Book). page b lent) (at-replay .replay .ensures) in
-    (paged, subst⁻¹ (λ (p : Paged). PageTells (count cs) lent p) paged (demand-3 cs (pageInto lent)))
+    (paged, subst⁻¹ (λ (p : Paged). PageTells (a .age-limit) (count cs) lent p) paged (demand-3 (a .age-limit) cs (pageInto lent)))
 
 pub page-after-spec : {M : Type 1} → statement M
 page-after-spec = tie.close (tie.spec replay-requires page-requires same-length returns)

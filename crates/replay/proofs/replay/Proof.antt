@@ -9,16 +9,16 @@ use Rattle.replay.proofs.replay.Statement.{statement}
 use Rattle.replay.proofs.replay.Tie as tie
 
 abbrev Inv-loop : tie.InvT-loop
-Inv-loop calls book₀ at₀ book at = Reached calls (asBook book) at
+Inv-loop limit calls book₀ at₀ book at = Reached limit calls (asBook book) at
 
 abbrev μ-loop : tie.MeasureT-loop
-μ-loop calls book₀ at₀ book at = length calls - at
+μ-loop limit calls book₀ at₀ book at = length calls - at
 
 fresh-requires : tie.Need-fresh-requires Inv-loop μ-loop
 fresh-requires c κs = search needs
 
 loop-holds : tie.Need-loop-holds Inv-loop μ-loop
-loop-holds c = rw (c .fresh .ensures) (begins _)
+loop-holds c = rw (c .fresh .ensures) (begins _ _)
 
 sub-make : tie.Need-sub-make Inv-loop μ-loop
 sub-make c = search needs
@@ -35,7 +35,7 @@ make-requires c κs = search needs
 returns : tie.Need-returns Inv-loop μ-loop
 returns c =
     let at-made = c .before .before in
-    stops-here _ _ _ (at-made .before .before .before .loop .inv) _ (at-made .make .ensures) (c .if1 .taken)
+    stops-here _ _ _ _ (at-made .before .before .before .loop .inv) _ (at-made .make .ensures) (c .if1 .taken)
 
 add-at : tie.Need-add-at Inv-loop μ-loop
 add-at c = search needs
@@ -46,10 +46,10 @@ loop-less c = search needs
 loop-again : tie.Need-loop-again Inv-loop μ-loop
 loop-again c =
     let at-made = c .before .before in
-    goes-on _ _ _ (at-made .before .before .before .loop .inv) _ (at-made .make .ensures) (omega arith) (omega arith)
+    goes-on _ _ _ _ (at-made .before .before .before .loop .inv) _ (at-made .make .ensures) (omega arith) (omega arith)
 
 returns-2 : tie.Need-returns-2 Inv-loop μ-loop
-returns-2 c = ends _ _ _ (c .before .loop .inv) (c .loop-test .left)
+returns-2 c = ends _ _ _ _ (c .before .loop .inv) (c .loop-test .left)
 
 pub replay-spec : {M : Type 1} → statement M
 replay-spec =

@@ -26,7 +26,7 @@ module _ (c : tie.After-make) (x : Reply) (told : c .make .result .reply ≡ x) 
   start = replayed .before .before .before
 
   abbrev book : Book
-  book = run (decode (now (start .args .calls)))
+  book = run (start .args .age-limit) (decode (now (start .args .calls)))
 
   abbrev record-read : Front
   record-read = front (now (start .args .call))

@@ -26,7 +26,7 @@ packed-requires c κs =
     let a = at-look .before .before .before .args in
     let looked = at-look .look-after in
     place-small (looked .result .verdict) (asFinding (looked .result .finding)) (looked .ensures .0)
-    (answer-place (run (decode (now (a .calls)))) (asks (lookAt (a .year))))
+    (answer-place (run (a .age-limit) (decode (now (a .calls)))) (asks (lookAt (a .year))))
 
 returns : tie.Need-returns
 returns c =
@@ -34,14 +34,14 @@ returns c =
     let a = at-look .before .before .before .args in
     let told = c .before .enum-told2 .given .1 in
     let refusal = at-verdict _ told (at-look .look-after .ensures .0) in
-    (look-refused (now (a .out)) told refusal (c .packed .ensures), demand-3 (decode (now (a .calls))))
+    (look-refused (now (a .out)) told refusal (c .packed .ensures), demand-3 (a .age-limit) (decode (now (a .calls))))
 
 returns-2 : tie.Need-returns-2
 returns-2 c =
     let at-look = c .before .before .before in
     let a = at-look .before .before .before .args in
     let found = at-verdict _ (c .before .enum-told .given .1) (at-look .look-after .ensures .0) in
-    (look-short (now (a .out)) _ found (c .if1 .taken), demand-3 (decode (now (a .calls))))
+    (look-short (now (a .out)) _ found (c .if1 .taken), demand-3 (a .age-limit) (decode (now (a .calls))))
 
 found-bytes-requires : tie.Need-found-bytes-requires
 found-bytes-requires c κs = search needs
@@ -66,7 +66,7 @@ returns-3 c =
     let found = at-verdict _ (at-told .enum-told .given .1) (at-look .look-after .ensures .0) in
     let bytes = at-bytes .found-bytes in (
       look-found (now (a .out)) _ found (bytes .result) _ (bytes .ensures) (at-copy .copy .ensures .1) (at-room .if1 .left),
-      demand-3 (decode (now (a .calls))),
+      demand-3 (a .age-limit) (decode (now (a .calls))),
     )
 
 pub tuyqorem-look-after-spec : {M : Type 1} → statement M

@@ -20,7 +20,7 @@ packed-requires c κs =
     let s = at-page .before .before .before in
     let a = s .before .args in
     let answer = ap (λ (p : Paged). p .answer) (at-page .page-after .ensures .0) in
-    place-small (at-page .page-after .result) tt answer (answer-place (run (decode (now (a .calls)))) (asks (pageInto (now (a .out)))))
+    place-small (at-page .page-after .result) tt answer (answer-place (run (a .age-limit) (decode (now (a .calls)))) (asks (pageInto (now (a .out)))))
 
 same-length : tie.Need-same-length
 same-length c = search needs
@@ -31,7 +31,7 @@ returns c =
     let s = at-page .before .before .before in
     let a = s .before .args in
     let cs = decode (now (a .calls)) in
-    (page-returned (at-page .page-after .result) _ (at-page .page-after .ensures .0) (c .packed .ensures), demand-3 cs)
+    (page-returned (at-page .page-after .result) _ (at-page .page-after .ensures .0) (c .packed .ensures), demand-3 (a .age-limit) cs)
 
 pub tuyqorem-page-after-spec : {M : Type 1} → statement M
 tuyqorem-page-after-spec =
