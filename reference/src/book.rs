@@ -1,4 +1,4 @@
-//! The book: the standing curve with its month, and the told month.
+//! The book: its age limit, the standing curve with its month, and the told month.
 
 use crate::curve::{Curve, YEARS};
 use crate::enclosure::Enclosure;
@@ -7,6 +7,10 @@ use crate::sheet::{Sheet, LAST_MONTH};
 
 /// Bytes in a page.
 pub const PAGE_LENGTH: usize = 1_505;
+
+/// The largest age limit, in months. No curve gets older: sheets' months start at 0 and the
+/// last month that can be told is 2,399.
+pub const LARGEST_AGE_LIMIT: u64 = 2_399;
 
 const PAGE_HEAD: u8 = 0x48;
 const PAGE_YEAR: u8 = 0x59;
@@ -23,6 +27,8 @@ struct Standing {
 /// The dated curve book.
 #[derive(Clone, Debug, PartialEq, Eq)]
 pub struct Book {
+    /// The greatest age at which the curve is shown, at most `LARGEST_AGE_LIMIT`.
+    age_limit: u64,
     told_month: u16,
     standing: Option<Standing>,
 }
@@ -37,23 +43,30 @@ pub struct Found {
     pub age: u16,
 }
 
-impl Default for Book {
-    fn default() -> Self {
-        Book::new()
-    }
-}
-
 impl Book {
-    /// A fresh book: told month 0, no curve.
-    pub fn new() -> Self {
+    /// A fresh book: told month 0, no curve. A limit above the largest makes a book with the
+    /// largest.
+    pub fn new(age_limit: u64) -> Self {
         Book {
+            age_limit: age_limit.min(LARGEST_AGE_LIMIT),
             told_month: 0,
             standing: None,
         }
     }
 
+    /// The book that the same calls leave on one made with `age_limit`: no post and no turn
+    /// looks at the limit. It spares those who compare under many limits the work of the posts.
+    pub fn with_age_limit(&self, age_limit: u64) -> Self {
+        Book {
+            told_month: self.told_month,
+            standing: self.standing.clone(),
+            ..Book::new(age_limit)
+        }
+    }
+
     /// Replaces the curve by that of the sheet in `bytes` and hands back its month,
-    /// or refuses on the first of grounds 1 to 10 and leaves the book unchanged.
+    /// or refuses on the first of grounds 1 to 10 and leaves the book unchanged. A curve
+    /// that is too old to be shown still stands in ground 6.
     pub fn post(&mut self, bytes: &[u8]) -> Result<u16, Refusal> {
         let sheet = Sheet::read(bytes)?;
         if sheet.month > self.told_month {
@@ -87,37 +100,45 @@ impl Book {
         Ok(self.told_month)
     }
 
-    /// The factor of `year` with its dating, or ground 13 or 14.
+    /// The factor of `year` with its dating, or the first of grounds 13, 14 and 16.
     pub fn look_up(&self, year: u32) -> Result<Found, Refusal> {
         let year = usize::try_from(year)
             .ok()
             .filter(|year| (1..=YEARS).contains(year))
             .ok_or(Refusal::plain(13))?;
-        let standing = self.standing()?;
+        let (standing, age) = self.shown()?;
         Ok(Found {
             factor: standing.curve.factor(year),
             month: standing.month,
-            age: self.age(standing),
+            age,
         })
     }
 
     /// Writes the page into the first 1,505 bytes of `buffer` and keeps the others,
-    /// or refuses on ground 14 or 15 and leaves the buffer unchanged.
+    /// or refuses on the first of grounds 14, 16 and 15, in this order, and leaves the
+    /// buffer unchanged.
     pub fn page(&self, buffer: &mut [u8]) -> Result<(), Refusal> {
-        let standing = self.standing()?;
+        let (standing, age) = self.shown()?;
         let page = buffer.get_mut(..PAGE_LENGTH).ok_or(Refusal::plain(15))?;
         let (head, years) = page.split_at_mut(HEAD_LENGTH);
         head[0] = PAGE_HEAD;
         head[1..3].copy_from_slice(&standing.month.to_be_bytes());
-        head[3..5].copy_from_slice(&self.age(standing).to_be_bytes());
+        head[3..5].copy_from_slice(&age.to_be_bytes());
         for (i, record) in years.chunks_exact_mut(YEAR_LENGTH).enumerate() {
             write_year(record, i + 1, standing.curve.factor(i + 1));
         }
         Ok(())
     }
 
-    fn standing(&self) -> Result<&Standing, Refusal> {
-        self.standing.as_ref().ok_or(Refusal::plain(14))
+    /// The standing curve with its age, if it is young enough to be shown; else ground 14
+    /// or 16.
+    fn shown(&self) -> Result<(&Standing, u16), Refusal> {
+        let standing = self.standing.as_ref().ok_or(Refusal::plain(14))?;
+        let age = self.age(standing);
+        if u64::from(age) > self.age_limit {
+            return Err(Refusal::plain(16));
+        }
+        Ok((standing, age))
     }
 
     /// Never below 0: ground 5 bounds the sheet's month, ground 12 keeps the told month.

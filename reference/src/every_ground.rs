@@ -1,13 +1,24 @@
-//! A journal that meets every ground a record can meet. Its answers are written by hand,
-//! after the specification's grounds and figures, and not worked.
+//! A journal that meets every ground a record can meet, on a book with `AGE_LIMIT`. Its
+//! answers are written by hand, after the specification's grounds and figures, and not worked.
 
 use crate::journal::{look_up, post, turn};
 use crate::sheet::{Sheet, MATURITIES};
 use crate::streams::sheet_bytes;
 
-/// The records in order, each with the number and the place of its answer: 0 and 0 where
-/// it is accepted.
-pub fn records() -> Vec<(Vec<u8>, u8, u8)> {
+/// The age limit of the book that gives these answers.
+pub const AGE_LIMIT: u64 = 3;
+
+/// A record with the number and the place of its answer: 0 and 0 where it is accepted.
+pub type Answered = (Vec<u8>, u8, u8);
+
+/// The records in order.
+pub fn records() -> Vec<Answered> {
+    [desk_records(), aging_records()].concat()
+}
+
+/// The records that meet every ground a desk's record can meet: all but 16. No curve in them
+/// gets older than two months, so `AGE_LIMIT` does not show.
+pub fn desk_records() -> Vec<Answered> {
     let posted = |sheet: Sheet| post(&sheet_bytes(&sheet));
     let followed_by = |bytes: &[u8]| post(&[&sheet_bytes(&zero()), bytes].concat());
     vec![
@@ -38,6 +49,34 @@ pub fn records() -> Vec<(Vec<u8>, u8, u8)> {
         (posted(with_x(20_000)), 6, 0),
         (look_up(0), 13, 0),
         (look_up(151), 13, 0),
+        (look_up(150), 0, 0),
+    ]
+}
+
+/// What follows `desk_records`, which leave month 2 told and the curve of month 1: curves at
+/// the limit and one month past it, and what closes and opens the book.
+fn aging_records() -> Vec<Answered> {
+    let posted = |sheet: Sheet| post(&sheet_bytes(&sheet));
+    vec![
+        (turn(4), 0, 0),
+        (look_up(150), 0, 0),
+        (turn(5), 0, 0),
+        (look_up(150), 16, 0),
+        (look_up(1), 16, 0),
+        (look_up(0), 13, 0),
+        (look_up(151), 13, 0),
+        // The book still holds that curve. Neither refused calls nor a sheet as old open it.
+        (posted(limited(2_209)), 6, 0),
+        (turn(4), 12, 0),
+        (look_up(150), 16, 0),
+        (posted(of_month(1)), 0, 0),
+        (look_up(150), 16, 0),
+        (posted(of_month(2)), 0, 0),
+        (look_up(150), 0, 0),
+        (turn(6), 0, 0),
+        (look_up(150), 16, 0),
+        (posted(of_month(1)), 6, 0),
+        (posted(of_month(6)), 0, 0),
         (look_up(150), 0, 0),
     ]
 }

@@ -1,4 +1,4 @@
-//! Journals: the calls of a list as bytes, made on a fresh book.
+//! Journals: the calls of a list as bytes, made on a fresh book of some age limit.
 
 use crate::book::Book;
 use crate::desk::{make, Call, CallReader, Next, LOOK_UP, POST, TURN};
@@ -33,9 +33,9 @@ pub fn calls(journal: &[u8]) -> impl Iterator<Item = Call> + '_ {
     .fuse()
 }
 
-/// The book that the journal's calls leave.
-pub fn book_after(journal: &[u8]) -> Book {
-    let mut book = Book::new();
+/// What the journal's calls leave of a fresh book with `age_limit`.
+pub fn book_after(age_limit: u64, journal: &[u8]) -> Book {
+    let mut book = Book::new(age_limit);
     for call in calls(journal) {
         // Refused or not: the book shows what the call did.
         _ = make(&mut book, &call);
@@ -43,12 +43,18 @@ pub fn book_after(journal: &[u8]) -> Book {
     book
 }
 
-/// The answer to the first record of `call` after the journal's calls: 0 where it is
-/// accepted, else the refusal's code; `NO_RECORD` where `call` starts with none. What
-/// follows that record is not looked at.
-pub fn answer_after(journal: &[u8], call: &[u8]) -> u64 {
+/// The answer to the first record of `call` on `book`: 0 where it is accepted, else the
+/// refusal's code; `NO_RECORD` where `call` starts with none. What follows that record is not
+/// looked at, and the book stays as it is.
+pub fn answer_on(book: &Book, call: &[u8]) -> u64 {
     match calls(call).next() {
         None => NO_RECORD,
-        Some(call) => make(&mut book_after(journal), &call).map_or_else(Refusal::code, |_| 0),
+        Some(call) => make(&mut book.clone(), &call).map_or_else(Refusal::code, |_| 0),
     }
+}
+
+/// The answer to the first record of `call` after the journal's calls on a fresh book with
+/// `age_limit`.
+pub fn answer_after(age_limit: u64, journal: &[u8], call: &[u8]) -> u64 {
+    answer_on(&book_after(age_limit, journal), call)
 }

@@ -2,6 +2,7 @@
 //! from par rates, extrapolation, the book itself, and the true curve of order n
 //! against which the enclosures are checked.
 
+pub mod arguments;
 pub mod bigint;
 pub mod book;
 pub mod bootstrap;
@@ -13,6 +14,7 @@ pub mod every_ground;
 pub mod extrapolation;
 pub mod interval;
 pub mod journal;
+pub mod questions;
 pub mod refusal;
 pub mod series;
 pub mod sheet;

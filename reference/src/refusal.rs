@@ -33,7 +33,7 @@ impl Refusal {
 }
 
 /// The grounds in words, that of number n at index n - 1.
-const REASONS: [&str; 15] = [
+const REASONS: [&str; 16] = [
     "the sheet's length is neither 109 nor 112",
     "a record's kind or maturity is not the one due",
     "a number is outside its range",
@@ -49,6 +49,7 @@ const REASONS: [&str; 15] = [
     "the year is not 1 to 150",
     "the book has no curve",
     "the buffer has fewer than 1,505 bytes",
+    "the curve's age is above the book's limit",
 ];
 
 impl fmt::Display for Refusal {

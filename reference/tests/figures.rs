@@ -3,7 +3,7 @@
 mod common;
 
 use common::{flat, zero, Numbers};
-use reference::book::{Book, PAGE_LENGTH};
+use reference::book::{Book, LARGEST_AGE_LIMIT, PAGE_LENGTH};
 use reference::curve::Curve;
 use reference::desk::run_desk;
 use reference::enclosure::{Enclosure, U};
@@ -365,7 +365,7 @@ fn posts_are_dated() {
         }
         .bytes()
     };
-    let mut book = Book::new();
+    let mut book = Book::new(LARGEST_AGE_LIMIT);
     assert_eq!(book.post(&dated(1)), Err(refusal(5, 0)));
     assert_eq!(book.turn(7), Ok(7));
     assert_eq!(book.post(&dated(8)), Err(refusal(5, 0)));
@@ -379,7 +379,7 @@ fn posts_are_dated() {
 
 #[test]
 fn refused_calls_change_nothing() {
-    let mut book = Book::new();
+    let mut book = Book::new(LARGEST_AGE_LIMIT);
     assert_eq!(book.turn(7), Ok(7));
     assert_eq!(book.post(&flat(3_000).bytes()), Ok(0));
     let before = book.clone();
@@ -408,7 +408,7 @@ fn refused_calls_change_nothing() {
 
 #[test]
 fn grounds_5_and_6_come_before_the_curve() {
-    let mut book = Book::new();
+    let mut book = Book::new(LARGEST_AGE_LIMIT);
     assert_eq!(
         book.post(
             &Numbers {
@@ -426,7 +426,7 @@ fn grounds_5_and_6_come_before_the_curve() {
 
 #[test]
 fn a_new_post_replaces_the_curve() {
-    let mut book = Book::new();
+    let mut book = Book::new(LARGEST_AGE_LIMIT);
     book.post(&zero().bytes()).unwrap();
     assert_eq!(book.look_up(1).unwrap().factor, Enclosure::new(U, U));
     book.post(&flat(3_000).bytes()).unwrap();
@@ -438,7 +438,7 @@ fn a_new_post_replaces_the_curve() {
 
 #[test]
 fn look_ups_try_the_year_first() {
-    let mut book = Book::new();
+    let mut book = Book::new(LARGEST_AGE_LIMIT);
     for year in [0, 151, 255, u32::MAX] {
         assert_eq!(book.look_up(year), Err(refusal(13, 0)));
     }
@@ -452,7 +452,7 @@ fn look_ups_try_the_year_first() {
 
 #[test]
 fn page_bytes() {
-    let mut book = Book::new();
+    let mut book = Book::new(LARGEST_AGE_LIMIT);
     let mut short = [9; PAGE_LENGTH - 1];
     assert_eq!(book.page(&mut short), Err(refusal(14, 0)));
     book.turn(0x0203).unwrap();

@@ -2,8 +2,14 @@
 
 use std::collections::BTreeSet;
 
-use reference::every_ground::records;
-use reference::journal::{answer_after, book_after, look_up, turn, NO_RECORD};
+use reference::book::{Book, LARGEST_AGE_LIMIT};
+use reference::desk;
+use reference::every_ground::{desk_records, records, AGE_LIMIT};
+use reference::journal::{self, answer_on, book_after, look_up, turn, NO_RECORD};
+
+fn answer_after(journal: &[u8], call: &[u8]) -> u64 {
+    journal::answer_after(AGE_LIMIT, journal, call)
+}
 
 #[test]
 fn every_ground_is_met() {
@@ -15,8 +21,36 @@ fn every_ground_is_met() {
         journal.extend(record);
         met.insert(number);
     }
+    assert_eq!(met, (0..=14).chain([16]).collect());
+    assert!(book_after(AGE_LIMIT, &journal).look_up(150).is_ok());
+}
+
+#[test]
+fn a_desk_meets_every_ground_but_16() {
+    let mut journal = Vec::new();
+    let mut met = BTreeSet::new();
+    for (record, number, place) in desk_records() {
+        let expected = u64::from(number) + 256 * u64::from(place);
+        let found = journal::answer_after(LARGEST_AGE_LIMIT, &journal, &record);
+        assert_eq!(found, expected);
+        journal.extend(record);
+        met.insert(number);
+    }
     assert_eq!(met, (0..=14).collect());
-    assert!(book_after(&journal).look_up(150).is_ok());
+}
+
+#[test]
+fn an_answer_leaves_the_book() {
+    let mut book = Book::new(AGE_LIMIT);
+    for (record, number, place) in records() {
+        let before = book.clone();
+        let expected = u64::from(number) + 256 * u64::from(place);
+        assert_eq!(answer_on(&book, &record), expected);
+        assert_eq!(book, before);
+        for call in journal::calls(&record) {
+            assert_eq!(desk::make(&mut book, &call).is_ok(), number == 0);
+        }
+    }
 }
 
 #[test]

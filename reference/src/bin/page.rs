@@ -1,15 +1,26 @@
 //! Reads a journal from standard input, makes its calls on a fresh book and writes
 //! the page, or the line of the refusal. A broken journal gives the desk's X line.
+//!
+//!     page [AGE_LIMIT] < journal
 
-use std::io::{self, Write};
+use std::io::{self, Read, Write};
+use std::process::ExitCode;
 
+use reference::arguments::{age_limit, usage_error};
 use reference::book::{Book, PAGE_LENGTH};
 use reference::desk::{answer, CallReader, Next};
 
-fn main() -> io::Result<()> {
-    let mut book = Book::new();
-    let mut calls = CallReader::new(io::stdin().lock());
-    let mut output = io::stdout().lock();
+fn main() -> io::Result<ExitCode> {
+    let Some(age_limit) = age_limit(std::env::args_os().skip(1)) else {
+        return Ok(usage_error("page"));
+    };
+    let book = Book::new(age_limit);
+    replay_and_page(book, io::stdin().lock(), io::stdout().lock())?;
+    Ok(ExitCode::SUCCESS)
+}
+
+fn replay_and_page(mut book: Book, input: impl Read, mut output: impl Write) -> io::Result<()> {
+    let mut calls = CallReader::new(input);
     loop {
         match calls.next_call()? {
             // The page shows what the calls did; their lines are not wanted here.

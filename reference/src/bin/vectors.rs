@@ -27,7 +27,7 @@ const WRONG_LENGTHS: [usize; 14] = [
 
 fn main() -> std::io::Result<()> {
     let mut random = Random::new(SEED);
-    let mut stream: Vec<u8> = every_ground::records()
+    let mut stream: Vec<u8> = every_ground::desk_records()
         .into_iter()
         .flat_map(|(record, _, _)| record)
         .collect();
