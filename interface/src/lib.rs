@@ -2,8 +2,11 @@
 
 use std::os::raw::c_uchar;
 
+pub mod compare;
+
 extern "C" {
     fn tuyqorem_look_after(
+        age_limit: u64,
         calls: *const c_uchar,
         calls_len: usize,
         year: u64,
@@ -11,12 +14,14 @@ extern "C" {
         out_len: usize,
     ) -> u64;
     fn tuyqorem_page_after(
+        age_limit: u64,
         calls: *const c_uchar,
         calls_len: usize,
         out: *mut c_uchar,
         out_len: usize,
     ) -> u64;
     fn tuyqorem_answer_after(
+        age_limit: u64,
         calls: *const c_uchar,
         calls_len: usize,
         call: *const c_uchar,
@@ -25,10 +30,11 @@ extern "C" {
 }
 
 /// The number of the ground, or 0.
-pub fn look_after(calls: &[u8], year: u64, out: &mut [u8]) -> u64 {
+pub fn look_after(age_limit: u64, calls: &[u8], year: u64, out: &mut [u8]) -> u64 {
     // SAFETY: both slices are valid for their lengths, and a `&mut` overlaps nothing.
     unsafe {
         tuyqorem_look_after(
+            age_limit,
             calls.as_ptr(),
             calls.len(),
             year,
@@ -39,13 +45,29 @@ pub fn look_after(calls: &[u8], year: u64, out: &mut [u8]) -> u64 {
 }
 
 /// The number of the ground, or 0.
-pub fn page_after(calls: &[u8], out: &mut [u8]) -> u64 {
+pub fn page_after(age_limit: u64, calls: &[u8], out: &mut [u8]) -> u64 {
     // SAFETY: both slices are valid for their lengths, and a `&mut` overlaps nothing.
-    unsafe { tuyqorem_page_after(calls.as_ptr(), calls.len(), out.as_mut_ptr(), out.len()) }
+    unsafe {
+        tuyqorem_page_after(
+            age_limit,
+            calls.as_ptr(),
+            calls.len(),
+            out.as_mut_ptr(),
+            out.len(),
+        )
+    }
 }
 
 /// Number + 256 × place of the ground, or 0; 255 where `call` starts with no whole record.
-pub fn answer_after(calls: &[u8], call: &[u8]) -> u64 {
+pub fn answer_after(age_limit: u64, calls: &[u8], call: &[u8]) -> u64 {
     // SAFETY: both slices are valid for their lengths, and neither is written.
-    unsafe { tuyqorem_answer_after(calls.as_ptr(), calls.len(), call.as_ptr(), call.len()) }
+    unsafe {
+        tuyqorem_answer_after(
+            age_limit,
+            calls.as_ptr(),
+            calls.len(),
+            call.as_ptr(),
+            call.len(),
+        )
+    }
 }

@@ -1,93 +1,167 @@
 //! The proved library's look-ups and pages against the second implementation's, on random
-//! journals, and on sheets of the phase-in against figures written by hand.
+//! journals under many age limits, and against figures and grounds written by hand.
 
 mod common;
 
-use common::{journal, journals, posted};
+use common::{cases, journals};
+use interface::compare::{Case, Kind, Met, Question};
 use interface::{look_after, page_after};
+use reference::book::LARGEST_AGE_LIMIT;
 use reference::convergence::TEN_PERCENT;
-use reference::journal::{book_after, post};
+use reference::journal::{post, turn};
+use reference::questions::{age_limits, journal};
 use reference::sheet::Sheet;
 use reference::streams::{low_rates, sheet, sheet_bytes, worked, Random};
 
 const BUFFERS: [usize; 5] = [0, 1_504, 1_505, 1_506, 2_000];
+const LOOK_UP_BUFFERS: [usize; 4] = [0, 11, 12, 13];
 
-/// The page of a sheet that is accepted.
+/// The page of a sheet that is accepted, which is the same under every age limit.
 fn page_of(sheet: &Sheet) -> Vec<u8> {
-    let mut page = vec![0; 1_505];
-    assert_eq!(page_after(&post(&sheet_bytes(sheet)), &mut page), 0);
-    page
+    let journal = post(&sheet_bytes(sheet));
+    let page = |age_limit| {
+        let mut page = vec![0; 1_505];
+        assert_eq!(page_after(age_limit, &journal, &mut page), 0);
+        page
+    };
+    let shown = page(0);
+    for age_limit in age_limits(&mut Random::new(36)) {
+        assert_eq!(page(age_limit), shown, "age limit {age_limit}");
+    }
+    shown
 }
 
-/// Low and high of a year of a sheet that is accepted.
+/// Low and high of a year of a sheet that is accepted, the same under every age limit.
 fn band_of(sheet: &Sheet, year: u64) -> (u32, u32) {
-    let mut out = [0; 12];
-    assert_eq!(look_after(&post(&sheet_bytes(sheet)), year, &mut out), 0);
-    let number = |at: usize| u32::from_be_bytes([out[at], out[at + 1], out[at + 2], out[at + 3]]);
-    (number(0), number(4))
+    let journal = post(&sheet_bytes(sheet));
+    let reply = |age_limit| {
+        let mut out = [0; 12];
+        assert_eq!(look_after(age_limit, &journal, year, &mut out), 0);
+        out
+    };
+    let shown = reply(0);
+    for age_limit in age_limits(&mut Random::new(37)) {
+        assert_eq!(reply(age_limit), shown, "age limit {age_limit}");
+    }
+    let [a, b, c, d, e, f, g, h, ..] = shown;
+    (
+        u32::from_be_bytes([a, b, c, d]),
+        u32::from_be_bytes([e, f, g, h]),
+    )
 }
 
 #[test]
 fn pages_agree() {
     let mut random = Random::new(31);
+    let mut met = Met::default();
     for number in 0..journals() {
         let journal = journal(&mut random);
-        let book = book_after(&journal);
-        for length in BUFFERS {
-            let (mut found, mut expected) = (vec![7; length], vec![7; length]);
-            let ground = page_after(&journal, &mut found);
-            let refusal = book.page(&mut expected).err();
-            assert_eq!(
-                ground,
-                refusal.map_or(0, |r| u64::from(r.number)),
-                "journal {number}"
-            );
-            assert_eq!(found, expected, "journal {number}, buffer {length}");
+        for case in cases(&mut random, &journal) {
+            for length in BUFFERS {
+                let answer = met.ask(&case, &Question::Page { length });
+                assert!(answer.is_ok(), "journal {number}: {answer:?}");
+            }
         }
     }
+    println!("{met}");
+    assert_eq!(met.check(&[Kind::Page, Kind::ShortPage]), Ok(()));
 }
 
 #[test]
 fn look_ups_agree() {
     let mut random = Random::new(32);
+    let mut met = Met::default();
     for number in 0..journals() {
         let journal = journal(&mut random);
-        let book = book_after(&journal);
-        for year in [0, 1, 20, 21, 150, 151, random.number()] {
-            let mut found = [9; 13];
-            let ground = look_after(&journal, year, &mut found);
-            let expected = book.look_up(u32::try_from(year).unwrap_or(u32::MAX));
-            match expected {
-                Err(refusal) => {
-                    assert_eq!(ground, u64::from(refusal.number), "journal {number}");
-                    assert_eq!(found, [9; 13], "a refusal leaves the buffer");
-                }
-                Ok(band) => {
-                    assert_eq!(ground, 0, "journal {number}");
-                    let mut bytes = Vec::new();
-                    bytes.extend((band.factor.low as u32).to_be_bytes());
-                    bytes.extend((band.factor.high as u32).to_be_bytes());
-                    bytes.extend(band.month.to_be_bytes());
-                    bytes.extend(band.age.to_be_bytes());
-                    bytes.push(9);
-                    assert_eq!(found.to_vec(), bytes, "journal {number}, year {year}");
-                }
+        for case in cases(&mut random, &journal) {
+            for year in [0, 1, 20, 21, 150, 151, random.number()] {
+                let length = LOOK_UP_BUFFERS[random.below(4) as usize];
+                let answer = met.ask(&case, &Question::LookUp { year, length });
+                assert!(answer.is_ok(), "journal {number}: {answer:?}");
             }
+        }
+    }
+    println!("{met}");
+    assert_eq!(met.check(&[Kind::LookUp, Kind::ShortLookUp]), Ok(()));
+}
+
+/// A curve of month 0, accepted, that is `age` months old.
+fn aged(age: u16) -> Vec<u8> {
+    [post(&sheet_bytes(&low_rates(0, None))), turn(age)].concat()
+}
+
+/// The ground of a look-up into `length` bytes, all of which a refusal leaves.
+fn looked(age_limit: u64, journal: &[u8], year: u64, length: usize) -> u64 {
+    let mut out = vec![9; length];
+    let ground = look_after(age_limit, journal, year, &mut out);
+    assert!(ground == 0 || out == vec![9; length]);
+    ground
+}
+
+/// The ground of a page into `length` bytes, all of which a refusal leaves.
+fn paged(age_limit: u64, journal: &[u8], length: usize) -> u64 {
+    let mut out = vec![9; length];
+    let ground = page_after(age_limit, journal, &mut out);
+    assert!(ground == 0 || out == vec![9; length]);
+    ground
+}
+
+#[test]
+fn grounds_come_in_their_order() {
+    for age_limit in age_limits(&mut Random::new(33)) {
+        for length in LOOK_UP_BUFFERS {
+            assert_eq!(looked(age_limit, &turn(2_399), 0, length), 13);
+            assert_eq!(looked(age_limit, &turn(2_399), 1, length), 14);
+        }
+        for length in BUFFERS {
+            assert_eq!(paged(age_limit, &turn(2_399), length), 14);
+        }
+    }
+    let (shown, old) = (aged(3), aged(4));
+    for length in LOOK_UP_BUFFERS {
+        assert_eq!(looked(3, &old, 151, length), 13);
+        assert_eq!(looked(3, &old, 150, length), 16);
+        let short = if length < 12 { 15 } else { 0 };
+        assert_eq!(looked(3, &shown, 150, length), short);
+    }
+    for length in BUFFERS {
+        assert_eq!(paged(3, &old, length), 16);
+        let short = if length < 1_505 { 15 } else { 0 };
+        assert_eq!(paged(3, &shown, length), short);
+    }
+}
+
+#[test]
+fn a_curve_is_shown_up_to_the_limit() {
+    for (age_limit, greatest) in [
+        (0, 0),
+        (1, 1),
+        (255, 255),
+        (256, 256),
+        (2_398, 2_398),
+        (2_399, 2_399),
+        (2_400, 2_399),
+        (1 << 16, 2_399),
+        (1 << 32, 2_399),
+        (1 << 63, 2_399),
+        (u64::MAX, 2_399),
+    ] {
+        for age in [0, 1, 2, 254, 255, 256, 257, 2_397, 2_398, 2_399] {
+            let expected = if age <= greatest { 0 } else { 16 };
+            let journal = aged(age);
+            assert_eq!(looked(age_limit, &journal, 1, 12), expected);
+            assert_eq!(paged(age_limit, &journal, 1_505), expected);
         }
     }
 }
 
 #[test]
 fn short_buffers_are_refused() {
-    let mut random = Random::new(33);
-    let mut journal = Vec::new();
-    while book_after(&journal).look_up(1).is_err() {
-        journal = posted(&mut random, 0);
+    for age_limit in age_limits(&mut Random::new(41)) {
+        assert_eq!(looked(age_limit, &aged(0), 1, 11), 15);
+        assert_eq!(paged(age_limit, &aged(0), 1_504), 15);
+        assert_eq!(paged(age_limit, &[], 2_000), 14);
     }
-    let mut out = [9; 11];
-    assert_eq!(look_after(&journal, 1, &mut out), 15);
-    assert_eq!(out, [9; 11]);
-    assert_eq!(page_after(&[], &mut [0; 2_000]), 14);
 }
 
 #[test]
@@ -99,10 +173,14 @@ fn pages_with_x_agree() {
         if sheet.convergence() == TEN_PERCENT || worked(&sheet).is_none() {
             continue;
         }
-        let mut expected = vec![0; 1_505];
-        let book = book_after(&post(&sheet_bytes(&sheet)));
-        assert_eq!(book.page(&mut expected), Ok(()));
-        assert_eq!(page_of(&sheet), expected, "{sheet:?}");
+        let journal = post(&sheet_bytes(&sheet));
+        let replayed = Case::replayed(LARGEST_AGE_LIMIT, &journal);
+        for age_limit in age_limits(&mut random) {
+            let answer = replayed
+                .under(age_limit)
+                .ask(&Question::Page { length: 1_505 });
+            assert!(matches!(answer, Ok(0)), "{answer:?}");
+        }
         done += 1;
     }
 }

@@ -5,6 +5,7 @@
 use std::time::{Duration, Instant};
 
 use interface::page_after;
+use reference::book::LARGEST_AGE_LIMIT;
 use reference::journal::book_after;
 use reference::streams::accepted_posts;
 
@@ -27,10 +28,11 @@ fn time(sheets: &str, posts: usize, journal: &[u8]) {
     for _ in 0..RUNS {
         let (mut page, mut expected) = (vec![0; 1_505], vec![0; 1_505]);
         let start = Instant::now();
-        assert_eq!(page_after(journal, &mut page), 0);
+        assert_eq!(page_after(LARGEST_AGE_LIMIT, journal, &mut page), 0);
         proved = proved.min(start.elapsed());
         let start = Instant::now();
-        assert!(book_after(journal).page(&mut expected).is_ok());
+        let book = book_after(LARGEST_AGE_LIMIT, journal);
+        assert!(book.page(&mut expected).is_ok());
         plain = plain.min(start.elapsed());
         assert_eq!(page, expected);
     }

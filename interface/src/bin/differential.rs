@@ -1,0 +1,127 @@
+//! Asks the proved library and the second implementation the same questions after seeded
+//! journals, each under several age limits, and compares answers and buffers. It prints how
+//! often each kind of question met each ground, and fails where one never met 16.
+//!
+//!     differential [SEED [POSTS]]
+
+use std::collections::BTreeSet;
+use std::process::ExitCode;
+
+use interface::compare::{Case, Kind, Met, Question};
+use reference::desk::Call;
+use reference::journal::calls;
+use reference::questions::{age_limits, call, journal, limits_around};
+use reference::streams::Random;
+
+/// Buffers for look-ups, whose reply has 12 bytes.
+const LOOK_UP_BUFFERS: [usize; 4] = [0, 11, 12, 40];
+
+/// Buffers for pages, which have 1,505 bytes.
+const PAGE_BUFFERS: [usize; 5] = [0, 1_504, 1_505, 1_506, 2_000];
+
+/// Posts between two lines that tell how far the run is.
+const PROGRESS: u64 = 20_000;
+
+fn main() -> ExitCode {
+    let Some((seed, posts)) = arguments() else {
+        eprintln!("usage: differential [SEED [POSTS]]");
+        return ExitCode::from(2);
+    };
+    let mut met = Met::default();
+    let compared = compare(seed, posts, &mut met);
+    println!("{met}");
+    match compared.and_then(|done| met.check(&Kind::ALL).map(|()| done)) {
+        Ok((journals, posts)) => {
+            println!("libraries agree after {journals} journals with {posts} posts");
+            ExitCode::SUCCESS
+        }
+        Err(text) => {
+            println!("{text}");
+            ExitCode::FAILURE
+        }
+    }
+}
+
+/// Seed and posts; none where a word is no number or one too many.
+fn arguments() -> Option<(u64, u64)> {
+    let words: Option<Vec<u64>> = std::env::args_os()
+        .skip(1)
+        .map(|word| word.to_str()?.parse().ok())
+        .collect();
+    match words?[..] {
+        [] => Some((1, 100_000)),
+        [seed] => Some((seed, 100_000)),
+        [seed, posts] => Some((seed, posts)),
+        _ => None,
+    }
+}
+
+/// The journals that it took to bring at least `posts` posts, and how many they brought.
+fn compare(seed: u64, posts: u64, met: &mut Met) -> Result<(u64, u64), String> {
+    let (mut done, mut number) = (0, 0);
+    while done < posts {
+        // A seed of its own makes each journal repeatable without those before it.
+        let mut random = Random::new(seed.wrapping_mul(1_000_003).wrapping_add(number));
+        let journal = journal(&mut random);
+        ask(&mut random, &journal, met).map_err(|text| format!("journal {number}: {text}"))?;
+        let before = done;
+        done += posts_in(&journal);
+        number += 1;
+        if before / PROGRESS < done / PROGRESS {
+            eprintln!("{done} posts");
+        }
+    }
+    Ok((number, done))
+}
+
+fn posts_in(journal: &[u8]) -> u64 {
+    let posts = calls(journal).filter(|call| matches!(call, Call::Post(_)));
+    posts.count() as u64
+}
+
+/// The library replays the journal for each question, so that a few under each limit must do.
+fn ask(random: &mut Random, journal: &[u8], met: &mut Met) -> Result<(), String> {
+    let limits = age_limits(random);
+    let any_limit = limits[random.below(limits.len() as u64) as usize];
+    let replayed = Case::replayed(any_limit, journal);
+    let around = replayed.age().into_iter().flat_map(limits_around);
+    for limit in BTreeSet::from_iter([0, any_limit].into_iter().chain(around)) {
+        let case = replayed.under(limit);
+        for question in questions(random) {
+            met.ask(&case, &question)?;
+        }
+    }
+    Ok(())
+}
+
+/// Look-ups of three years, the first outside the curve, three pages and the answers to two
+/// records.
+fn questions(random: &mut Random) -> [Question; 8] {
+    // 2^32 + 20 is outside as well, whatever its low bits are.
+    let outside = [0, 151, 255, 256, (1 << 32) + 20, u64::MAX][random.below(6) as usize];
+    [
+        look_up(random, outside),
+        any_look_up(random),
+        any_look_up(random),
+        page(random),
+        page(random),
+        page(random),
+        Question::Answer { call: call(random) },
+        Question::Answer { call: call(random) },
+    ]
+}
+
+fn any_look_up(random: &mut Random) -> Question {
+    let year = 1 + random.below(150);
+    look_up(random, year)
+}
+
+fn look_up(random: &mut Random, year: u64) -> Question {
+    let length = LOOK_UP_BUFFERS[random.below(4) as usize];
+    Question::LookUp { year, length }
+}
+
+fn page(random: &mut Random) -> Question {
+    let length = PAGE_BUFFERS[random.below(5) as usize];
+    Question::Page { length }
+}

@@ -1,0 +1,258 @@
+//! The library's answers beside the second implementation's, question by question, and a
+//! count of what the questions met.
+
+use std::collections::BTreeMap;
+use std::fmt;
+
+use reference::book::{Book, Found, PAGE_LENGTH};
+use reference::desk::LOOK_UP;
+use reference::journal::{answer_on, book_after};
+use reference::questions::curve_age;
+use reference::refusal::Refusal;
+
+use crate::{answer_after, look_after, page_after};
+
+/// Bytes in the reply to a look-up.
+pub const LOOK_UP_LENGTH: usize = 12;
+
+/// What a lent buffer holds, so that each byte written or left is seen.
+const LENT: u8 = 7;
+
+/// The ground of a curve whose age is above the limit.
+const TOO_OLD: u64 = 16;
+
+/// A question asked after a journal; lengths are those of the lent buffer.
+pub enum Question {
+    LookUp { year: u64, length: usize },
+    Page { length: usize },
+    Answer { call: Vec<u8> },
+}
+
+impl Question {
+    fn length(&self) -> usize {
+        match self {
+            Question::LookUp { length, .. } | Question::Page { length } => *length,
+            Question::Answer { .. } => 0,
+        }
+    }
+
+    /// Its kind, by which it is counted.
+    pub fn kind(&self) -> Kind {
+        match self {
+            Question::LookUp { length, .. } if *length < LOOK_UP_LENGTH => Kind::ShortLookUp,
+            Question::LookUp { .. } => Kind::LookUp,
+            Question::Page { length } if *length < PAGE_LENGTH => Kind::ShortPage,
+            Question::Page { .. } => Kind::Page,
+            Question::Answer { .. } => Kind::Answer,
+        }
+    }
+
+    /// Whether it asks for the curve, and no post or turn.
+    fn shows_the_curve(&self) -> bool {
+        match self {
+            Question::Answer { call } => call.first() == Some(&LOOK_UP),
+            _ => true,
+        }
+    }
+}
+
+impl fmt::Display for Question {
+    fn fmt(&self, f: &mut fmt::Formatter<'_>) -> fmt::Result {
+        match self {
+            Question::LookUp { year, length } => {
+                write!(f, "look-up of year {year} into {length} bytes")
+            }
+            Question::Page { length } => write!(f, "page into {length} bytes"),
+            Question::Answer { call } => write!(f, "answer to {}", hex(call)),
+        }
+    }
+}
+
+/// The kinds of questions, those into a buffer too short for the reply apart.
+#[derive(Clone, Copy, Debug, PartialEq, Eq, PartialOrd, Ord)]
+pub enum Kind {
+    LookUp,
+    ShortLookUp,
+    Page,
+    ShortPage,
+    Answer,
+}
+
+impl Kind {
+    /// All kinds, in the order in which they are told.
+    pub const ALL: [Kind; 5] = [
+        Kind::LookUp,
+        Kind::ShortLookUp,
+        Kind::Page,
+        Kind::ShortPage,
+        Kind::Answer,
+    ];
+}
+
+impl fmt::Display for Kind {
+    fn fmt(&self, f: &mut fmt::Formatter<'_>) -> fmt::Result {
+        f.write_str(match self {
+            Kind::LookUp => "look-ups",
+            Kind::ShortLookUp => "look-ups into short buffers",
+            Kind::Page => "pages",
+            Kind::ShortPage => "pages into short buffers",
+            Kind::Answer => "answers to records",
+        })
+    }
+}
+
+/// A journal under an age limit, with the second implementation's book after it.
+pub struct Case<'a> {
+    age_limit: u64,
+    journal: &'a [u8],
+    book: Book,
+    /// The age of the curve that the book holds, if it holds one.
+    age: Option<u64>,
+}
+
+impl<'a> Case<'a> {
+    /// The second implementation replays the journal on a fresh book with the limit.
+    pub fn replayed(age_limit: u64, journal: &'a [u8]) -> Self {
+        let book = book_after(age_limit, journal);
+        Case {
+            age_limit,
+            journal,
+            age: curve_age(&book),
+            book,
+        }
+    }
+
+    /// The same journal under another limit; its posts are not worked once more.
+    pub fn under(&self, age_limit: u64) -> Self {
+        Case {
+            age_limit,
+            book: self.book.with_age_limit(age_limit),
+            ..*self
+        }
+    }
+
+    /// The age of the curve that the book holds, if it holds one.
+    pub fn age(&self) -> Option<u64> {
+        self.age
+    }
+
+    /// The answer that both give, or how they differ in it or in the buffer they leave.
+    pub fn ask(&self, question: &Question) -> Result<u64, String> {
+        let lent = vec![LENT; question.length()];
+        let (mut found, mut expected) = (lent.clone(), lent);
+        let answer = self.library(question, &mut found);
+        let expected_answer = self.second(question, &mut expected);
+        if answer == expected_answer && found == expected {
+            return Ok(answer);
+        }
+        let other = found.iter().zip(&expected).position(|(a, b)| a != b);
+        Err(format!(
+            "{question} under age limit {}: found {answer}, expected {expected_answer}, first \
+             other byte of the buffer {other:?}, after the journal {}",
+            self.age_limit,
+            hex(self.journal)
+        ))
+    }
+
+    fn library(&self, question: &Question, out: &mut [u8]) -> u64 {
+        let (limit, journal) = (self.age_limit, self.journal);
+        match question {
+            Question::LookUp { year, .. } => look_after(limit, journal, *year, out),
+            Question::Page { .. } => page_after(limit, journal, out),
+            Question::Answer { call } => answer_after(limit, journal, call),
+        }
+    }
+
+    fn second(&self, question: &Question, out: &mut [u8]) -> u64 {
+        match question {
+            Question::LookUp { year, .. } => {
+                let found = self.book.look_up(u32::try_from(*year).unwrap_or(u32::MAX));
+                code(found.and_then(|found| write_look_up(&found, out)))
+            }
+            Question::Page { .. } => code(self.book.page(out)),
+            Question::Answer { call } => answer_on(&self.book, call),
+        }
+    }
+}
+
+fn hex(bytes: &[u8]) -> String {
+    bytes.iter().map(|byte| format!("{byte:02X}")).collect()
+}
+
+fn code(answer: Result<(), Refusal>) -> u64 {
+    answer.err().map_or(0, Refusal::code)
+}
+
+/// The reply to a look-up that the book answers; a buffer too short for it is tried last.
+fn write_look_up(found: &Found, out: &mut [u8]) -> Result<(), Refusal> {
+    let reply = out.get_mut(..LOOK_UP_LENGTH).ok_or(Refusal::plain(15))?;
+    reply[..4].copy_from_slice(&four_bytes(found.factor.low));
+    reply[4..8].copy_from_slice(&four_bytes(found.factor.high));
+    reply[8..10].copy_from_slice(&found.month.to_be_bytes());
+    reply[10..].copy_from_slice(&found.age.to_be_bytes());
+    Ok(())
+}
+
+/// Ground 8 keeps every factor at or below 2 U, which fits in 32 bits.
+fn four_bytes(value: i128) -> [u8; 4] {
+    u32::try_from(value)
+        .expect("a factor from 0 to 2 U")
+        .to_be_bytes()
+}
+
+/// How often each kind of question met each number, and curves at the limit and just past it.
+#[derive(Default)]
+pub struct Met {
+    numbers: BTreeMap<(Kind, u64), u64>,
+    shown_at_the_limit: u64,
+    a_month_past_it: u64,
+}
+
+impl Met {
+    /// Asks, and counts what was met.
+    pub fn ask(&mut self, case: &Case, question: &Question) -> Result<u64, String> {
+        let answer = case.ask(question)?;
+        let number = answer % 256;
+        *self.numbers.entry((question.kind(), number)).or_default() += 1;
+        if number == 0 && question.shows_the_curve() && case.age == Some(case.age_limit) {
+            self.shown_at_the_limit += 1;
+        }
+        if number == TOO_OLD && case.age == case.age_limit.checked_add(1) {
+            self.a_month_past_it += 1;
+        }
+        Ok(answer)
+    }
+
+    /// Says what was not met and must be for the questions to mean something: ground 16 by
+    /// each of these kinds, and curves at the limit and a month past it.
+    pub fn check(&self, kinds: &[Kind]) -> Result<(), String> {
+        let missed = |&&kind: &&Kind| !self.numbers.contains_key(&(kind, TOO_OLD));
+        if let Some(kind) = kinds.iter().find(missed) {
+            return Err(format!("ground {TOO_OLD} was not met by {kind}"));
+        }
+        if self.shown_at_the_limit == 0 || self.a_month_past_it == 0 {
+            return Err("no curve was met at the limit, or none a month past it".to_string());
+        }
+        Ok(())
+    }
+}
+
+/// A line for each kind that was asked, with `number × times` of each number that it met.
+impl fmt::Display for Met {
+    fn fmt(&self, f: &mut fmt::Formatter<'_>) -> fmt::Result {
+        for kind in Kind::ALL {
+            let of_kind = self.numbers.iter().filter(|((of, _), _)| *of == kind);
+            let met: Vec<_> = of_kind
+                .map(|((_, number), times)| format!("{number} × {times}"))
+                .collect();
+            if !met.is_empty() {
+                writeln!(f, "{kind}: {}", met.join(", "))?;
+            }
+        }
+        write!(
+            f,
+            "curves shown exactly at the limit: {}; turned away a month past it: {}",
+            self.shown_at_the_limit, self.a_month_past_it
+        )
+    }
+}
