@@ -1,11 +1,13 @@
 /* Goes through a journal and prints for each of its records that it is accepted, or why it is turned down:
- * why_refused < journal
+ * why_refused [AGE_LIMIT] < journal
+ * The book's age limit is in months, and the largest, 2,399, where none is given.
  * Build: rt staticlib replay && cc -Iinclude examples/why_refused.c target/staticlib/libreplay.a -o why_refused
  * A program that keeps a journal would ask the same before it adds a record. It compiles as C++ too. */
 #include <stdio.h>
+#include "age_limit.h"
 #include "tuyqorem.h"
 
-/* The grounds of docs/SPECIFICATION.md, section 9; a record can meet 1 to 14. */
+/* The grounds of docs/SPECIFICATION.md, section 9; a record can meet 1 to 14 and 16. */
 static const char *const reasons[] = {
     "",
     "the sheet's length is neither 109 nor 112",
@@ -22,6 +24,8 @@ static const char *const reasons[] = {
     "the month is before the told month",
     "the year is not 1 to 150",
     "the book has no curve",
+    "the buffer has fewer than 1,505 bytes",
+    "the curve's age is above the book's limit",
 };
 
 /* Only a whole record is measured, so its length bytes are there. */
@@ -38,7 +42,12 @@ static void print_answer(uint64_t answer) {
         printf("turned down on %u, place %u: %s\n", number, place, reasons[number]);
 }
 
-int main(void) {
+int main(int argc, char **argv) {
+    uint64_t age_limit;
+    if (!read_age_limit(argc, argv, &age_limit)) {
+        fprintf(stderr, "usage: why_refused [AGE_LIMIT] < journal\n");
+        return 2;
+    }
     static uint8_t calls[1 << 20];
     size_t held = fread(calls, 1, sizeof calls, stdin);
     if (held == sizeof calls) {
@@ -48,7 +57,7 @@ int main(void) {
     /* The first `at` bytes are the journal, and the record behind them is the call. */
     size_t at = 0;
     for (;;) {
-        uint64_t answer = tuyqorem_answer_after(calls, at, calls + at, held - at);
+        uint64_t answer = tuyqorem_answer_after(age_limit, calls, at, calls + at, held - at);
         if (answer == 255) break;
         print_answer(answer);
         at += record_length(calls + at);

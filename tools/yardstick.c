@@ -425,6 +425,7 @@ static Ground turn(Book *book, int month) {
     return none;
 }
 
+/* The desk's age limit is the largest, which no curve's age is above, so ground 16 has no place here. */
 static Ground look_up(const Book *book, int year, Pair *factor) {
     if (year < 1 || year > YEARS) return ground(13, 0);
     if (!book->has_curve) return ground(14, 0);
