@@ -330,3 +330,13 @@ pub fn accepted_posts(seed: u64, count: usize, with_phase_in: bool) -> Vec<u8> {
     }
     stream
 }
+
+/// An accepted post and `count` look-ups of its curve, for measuring.
+pub fn look_ups(seed: u64, count: usize) -> Vec<u8> {
+    let mut random = Random::new(seed);
+    let mut stream = post(&sheet_bytes(&low_rates(0, None)));
+    for _ in 0..count {
+        stream.extend(look_up(1 + random.below(150) as u8));
+    }
+    stream
+}

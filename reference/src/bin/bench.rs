@@ -1,7 +1,7 @@
 //! Times desk programs on a stream of posts and look-ups, in turn, in one run on one
 //! machine, once it has seen that they print the same; then on the same posts with an X,
-//! whose weights are worked anew in each. The first desk's time is the denominator of the
-//! ratios.
+//! whose weights are worked anew in each; then on look-ups after one post. The first desk's
+//! time is the denominator of the ratios.
 //!
 //!     bench POSTS NAME=DESK NAME=DESK..
 
@@ -10,11 +10,14 @@ use std::path::Path;
 use std::process::{Command, ExitCode, Stdio};
 use std::time::{Duration, Instant};
 
-use reference::streams::accepted_posts;
+use reference::streams::{accepted_posts, look_ups};
 
 /// Each desk is run this often; the fastest run counts, as the least disturbed one.
 const RUNS: usize = 7;
 const SEED: u64 = 7;
+
+/// Look-ups for each post that is asked for, so that both streams take about as long.
+const LOOK_UPS: usize = 50;
 
 /// A desk program and what to call it.
 struct Desk {
@@ -39,24 +42,53 @@ fn main() -> ExitCode {
     }
 }
 
+/// What is timed: a stream, and how many of its calls are accepted with a line of that start.
+struct Load {
+    name: &'static str,
+    stream: Vec<u8>,
+    calls: usize,
+    unit: &'static str,
+    line: &'static [u8],
+}
+
+fn posts_of(name: &'static str, posts: usize, with_phase_in: bool) -> Load {
+    Load {
+        name,
+        stream: accepted_posts(SEED, posts, with_phase_in),
+        calls: posts,
+        unit: "posts",
+        line: b"P ",
+    }
+}
+
+fn look_ups_of(calls: usize) -> Load {
+    Load {
+        name: "after one post",
+        stream: look_ups(SEED, calls),
+        calls,
+        unit: "look-ups",
+        line: b"L ",
+    }
+}
+
 fn bench(posts: usize, desks: &[Desk]) -> Result<(), String> {
-    // Runs beside each other keep to their own streams.
-    let name = format!("desk-bench-{}", std::process::id());
-    let input = std::env::temp_dir().join(name);
-    let run = |with_phase_in| {
-        let best = compared_and_timed(posts, with_phase_in, desks, &input);
-        _ = std::fs::remove_file(&input);
-        best
-    };
-    let without = run(false)?;
-    report("without X", posts, desks, &without);
-    let with = run(true)?;
-    report("with X", posts, desks, &with);
+    let without = run(&posts_of("without X", posts, false), desks)?;
+    let with = run(&posts_of("with X", posts, true), desks)?;
     for ((desk, with), without) in desks.iter().zip(with).zip(without) {
         let cost = with.as_secs_f64() / without.as_secs_f64();
         println!("{}: with X {cost:.2} times as long as without", desk.name);
     }
-    Ok(())
+    run(&look_ups_of(LOOK_UPS * posts), desks).map(|_| ())
+}
+
+fn run(load: &Load, desks: &[Desk]) -> Result<Vec<Duration>, String> {
+    // Runs beside each other keep to their own streams.
+    let name = format!("desk-bench-{}", std::process::id());
+    let input = std::env::temp_dir().join(name);
+    let best = compared_and_timed(load, desks, &input);
+    _ = std::fs::remove_file(&input);
+    report(load, desks, best.as_deref().unwrap_or(&[]));
+    best
 }
 
 fn desk(word: &str) -> Option<Desk> {
@@ -67,40 +99,37 @@ fn desk(word: &str) -> Option<Desk> {
     })
 }
 
-fn compared_and_timed(
-    posts: usize,
-    with_phase_in: bool,
-    desks: &[Desk],
-    input: &Path,
-) -> Result<Vec<Duration>, String> {
-    let stream = accepted_posts(SEED, posts, with_phase_in);
-    std::fs::write(input, stream).map_err(|e| format!("{}: {e}", input.display()))?;
-    compare(posts, desks, input)?;
+fn compared_and_timed(load: &Load, desks: &[Desk], input: &Path) -> Result<Vec<Duration>, String> {
+    std::fs::write(input, &load.stream).map_err(|e| format!("{}: {e}", input.display()))?;
+    compare(load, desks, input)?;
     timed(desks, input)
 }
 
-fn report(sheets: &str, posts: usize, desks: &[Desk], best: &[Duration]) {
+fn report(load: &Load, desks: &[Desk], best: &[Duration]) {
     for (desk, time) in desks.iter().zip(best) {
         let seconds = time.as_secs_f64();
         println!(
-            "{}, {sheets}: {seconds:.3} s, {:.0} posts a second, ratio to {} {:.2}",
+            "{}, {}: {seconds:.3} s, {:.0} {} a second, ratio to {} {:.2}",
             desk.name,
-            posts as f64 / seconds,
+            load.name,
+            load.calls as f64 / seconds,
+            load.unit,
             desks[0].name,
             seconds / best[0].as_secs_f64()
         );
     }
 }
 
-/// All desks print the first one's lines, and these accept every post: a desk that stops
-/// early would look fast.
-fn compare(posts: usize, desks: &[Desk], input: &Path) -> Result<(), String> {
+/// All desks print the first one's lines, and these accept every call that is counted: a desk
+/// that stops early would look fast.
+fn compare(load: &Load, desks: &[Desk], input: &Path) -> Result<(), String> {
     let lines = output(&desks[0], input)?;
     let accepted = lines
         .split(|&byte| byte == b'\n')
-        .filter(|line| line.starts_with(b"P "));
-    if accepted.count() != posts {
-        return Err(format!("{} does not accept every post", desks[0].name));
+        .filter(|line| line.starts_with(load.line));
+    if accepted.count() != load.calls {
+        let (name, unit) = (&desks[0].name, load.unit);
+        return Err(format!("{name} does not accept all {unit}"));
     }
     for desk in &desks[1..] {
         if output(desk, input)? != lines {
