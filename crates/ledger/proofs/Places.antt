@@ -10,7 +10,7 @@ use Rattle.method.proofs.Places.{place, bind-place, demand-place, read-place, c
 use Rattle.ledger.specs.Answers.{answerPlace}
 use Rattle.ledger.specs.Page.{pageLength}
 use Rattle.ledger.specs.Book.{Standing, none, some, Book, booked, notBefore, postOutcome, post, lastMonth, turnOutcome, turn}
-use Rattle.ledger.specs.Book.{age, openCurve, yearInside, lookIn, lookUp, pageOutcome, pagedBy, page}
+use Rattle.ledger.specs.Book.{young, openCurve, yearInside, lookIn, lookUp, pageOutcome, pagedBy, page}
 use Rattle.ledger.specs.Calls.{Call, postOf, turnTo, asks, lookAt, pageInto, answerOf}
 
 -- a refusal is answered as it is, and an accepted call at place 0
@@ -43,7 +43,7 @@ turn-place b m =
 
 open-place : (s : Standing) (told limit : ℕ) → place (openCurve s told limit) ≤ 0
 open-place none told limit = omega arith
-open-place (some c) told limit = demand-place (leb (age told c) limit) _ _ (omega arith) (omega arith)
+open-place (some c) told limit = demand-place (young c told limit) _ _ (omega arith) (omega arith)
 
 look-place : (b : Book) (y : ℕ) → answerPlace (lookUp b y) ≤ 0
 unfolding lookIn

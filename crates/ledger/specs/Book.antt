@@ -80,12 +80,13 @@ withTold b m = record { ageLimit = b .ageLimit; told = m; standing = b .standing
 unfoldable pub turn : Book → ℕ → Booked
 turn b m = booked b (withTold b) (λ m. m) (turnOutcome b m)
 
--- ---- what may be shown of a curve, at a told month and with an age limit: 14, 16
+-- ---- what may be shown of a curve, or none, at a told month and with an age limit: 14, 16
 
 -- told month less sheet month
 abbrev pub age : ℕ → Curve → ℕ
 age told c = told - c .month
 
+-- at the limit itself it still is
 abbrev pub young : Curve → ℕ → ℕ → Bool
 young c told limit = leb (age told c) limit
 
