@@ -25,7 +25,8 @@ returns c =
     let a = at-opens .before .before .args in
     let told = c .enum-told2 .given .1 in
     let lent = now (a .out) in
-    ap (λ (v : Verdict). asPaged v lent) told ∙ sym (page-closed _ _ _ lent (asked (a .has) (a .curve) (a .told) (a .age-limit) (at-opens .opens .ensures) told))
+    let closed = page-closed _ _ _ lent (asked (a .has) (a .curve) (a .told) (a .age-limit) (at-opens .opens .ensures) told) in
+    ap (λ (v : Verdict). asPaged v lent) told ∙ sym closed
 
 returns-2 : tie.Need-returns-2
 returns-2 c =
