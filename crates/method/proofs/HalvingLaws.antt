@@ -1,14 +1,15 @@
 -- Laws of the halving: its steps, what it keeps of its ends, and that a low x is never above a high x.
-use mathlib.Core.Path.{_≡_, refl, ap}
+use mathlib.Core.Path.{_≡_, refl, ap, ap₂, _∙_}
 use mathlib.Core.Bool.{Bool, true, false, cond, not}
 use Prim.Native.Nat.{ℕ, zero, suc, _+_, _*_, _-_, _/_, _^_, _≤_, _<_}
 use native.Mathlib.Nat.{mul-le-mul, mul-le-mul-left, pow-lt-pow-left}
 use native.Mathlib.Omega.{arith}
 use lib.Dec.{ltb}
 use lib.IntN.{ℤ, pos, negsuc}
-use borrow.Author.Tests.{lt-ltb, le-ltb, ltb-true, leb-true, not-false}
+use borrow.Author.Tests.{lt-ltb, le-ltb, ltb-true, ltb-false, leb-true, not-false}
 use Rattle.method.specs.Units.{Pair, pair, rateUnit, parValue}
 use Rattle.method.specs.Quotes.{Gap, surelyNotAbove, surelyNotBelow, halve, lowX, highX, lowerEnd, upperEnd}
+use Rattle.method.proofs.Outcome.{split}
 use Rattle.method.proofs.TrialLaws.{down-up, total-ordered, last-strict, last-scaled, total-scaled}
 
 -- ---- a step
@@ -69,6 +70,69 @@ halve-low-passes rises = halve-keeps rises (λ p. rises (p .low) ≡ true) (λ l
 
 pub halve-high-fails : (rises : ℕ → Bool) (n lo hi : ℕ) → rises hi ≡ false → rises (halve rises n lo hi .high) ≡ false
 halve-high-fails rises = halve-keeps rises (λ p. rises (p .high) ≡ false) (λ l u w r k. k) (λ l u w r k. r)
+
+-- with as many halvings as the ends are apart, they come to stand 1 apart
+pub halve-meets : (rises : ℕ → Bool) (n lo hi : ℕ) → lo < hi → hi - lo ≤ n → halve rises n lo hi .high ≡ halve rises n lo hi .low + 1
+unfolding halve
+halve-meets rises zero lo hi h d = absurd (omega arith)
+halve-meets rises (suc n) lo hi h d =
+    let Met : Pair → Type 0 = λ p. p .high ≡ p .low + 1 in
+    cond-cases Met (ltb 1 (hi - lo))
+    (λ t.
+    let wide = ltb-true 1 (hi - lo) t in
+    cond-cases Met (rises (middle lo hi))
+    (λ r. halve-meets rises n (middle lo hi) hi (omega arith) (omega arith))
+    (λ r. halve-meets rises n lo (middle lo hi) (omega arith) (omega arith)))
+    (λ t. omega (arith, ltb-false 1 (hi - lo) t))
+
+-- the lower end passes unless it is the first, the upper fails unless it is the last
+pub halve-low-turned : (rises : ℕ → Bool) (n lo hi : ℕ) → lo < halve rises n lo hi .low → rises (halve rises n lo hi .low) ≡ true
+halve-low-turned rises n lo hi =
+    halve-keeps rises (λ p. lo < p .low → rises (p .low) ≡ true) (λ l u w r k h. r) (λ l u w r k h. k h) n lo hi (λ h. absurd (omega arith))
+
+pub halve-high-turned : (rises : ℕ → Bool) (n lo hi : ℕ) → halve rises n lo hi .high < hi → rises (halve rises n lo hi .high) ≡ false
+halve-high-turned rises n lo hi =
+    halve-keeps rises (λ p. p .high < hi → rises (p .high) ≡ false) (λ l u w r k h. k h) (λ l u w r k h. r) n lo hi (λ h. absurd (omega arith))
+
+-- ---- a test that holds up to somewhere and not beyond: the halving stops where it turns
+
+abbrev pub Falls : (ℕ → Bool) → Type 0
+Falls rises = (a b : ℕ) → a ≤ b → rises b ≡ true → rises a ≡ true
+
+module _ (rises : ℕ → Bool) (falls : Falls rises) (lo hi : ℕ) (apart : lo < hi) where
+  abbrev ends : Pair
+  ends = halve rises (hi - lo) lo hi
+
+  pub ends-met : ends .high ≡ ends .low + 1
+  ends-met = halve-meets rises (hi - lo) lo hi apart (omega arith)
+
+  turned-twice : (a b : ℕ) → a ≤ b → rises b ≡ true → rises a ≡ false → ⊥
+  turned-twice a b h passes fails = let z : _≡_ {A = ℕ} 0 1 = cc (falls a b h passes) in omega arith
+
+  -- none that passes lies above the lower end
+  pub halve-last : (k : ℕ) → k < hi → rises k ≡ true → k ≤ ends .low
+  halve-last k below passes =
+      let above : ends .low < k → ⊥ =
+      λ h. turned-twice (ends .high) k (omega (arith, ends-met)) passes (halve-high-turned rises (hi - lo) lo hi (omega (arith, ends-met))) in
+      omega (arith, above)
+
+  -- none that fails lies below the upper
+  pub halve-first : (k : ℕ) → lo < k → rises k ≡ false → ends .high ≤ k
+  halve-first k above fails =
+      let below : k < ends .high → ⊥ =
+      λ h. turned-twice k (ends .low) (omega (arith, ends-met)) (halve-low-turned rises (hi - lo) lo hi (omega (arith, ends-met))) fails in
+      omega (arith, below)
+
+  -- so it stops at no other place
+  pub halve-is : (m : ℕ) → lo ≤ m → m < hi → (lo < m → rises m ≡ true) → (m + 1 < hi → rises (m + 1) ≡ false) → ends ≡ pair m (m + 1)
+  halve-is m from below here next =
+      let within = halve-within rises (hi - lo) lo hi (omega arith) in
+      let at-least : m ≤ ends .low =
+      split (ltb lo m) (λ q. halve-last m below (here (ltb-true lo m q))) (λ q. omega (arith, ltb-false lo m q)) in
+      let at-most : ends .high ≤ m + 1 =
+      split (ltb (m + 1) hi) (λ q. halve-first (m + 1) (omega arith) (next (ltb-true (m + 1) hi q))) (λ q. omega (arith, ltb-false (m + 1) hi q)) in
+      let low : ends .low ≡ m = omega (arith, ends-met) in
+      ap₂ pair low (ends-met ∙ ap (λ (k : ℕ). k + 1) low)
 
 -- ---- the low and the high x
 
