@@ -2,7 +2,7 @@
 ghost use mathlib.Core.Path.{_≡_};
 ghost use Prim.Native.Nat.{_+_, _*_, _%_, _^_, _≤_, _<_};
 ghost use lib.ListN.{length};
-ghost use Rattle.method.specs.Bytes.{bigEndian};
+ghost use Rattle.method.specs.Bytes.{bigEndian, inBytes, twosComplement32, putAt};
 
 // With the bound that a cast in place would leave to its caller.
 pub fn wide(byte: u8) -> u64
@@ -36,4 +36,29 @@ pub fn byte(n: u64) -> u8
     ensures { λ r. ⌜ r ≡ n % 256 ⌝ }
 {
     (n % 256) as u8
+}
+
+// Writes the lowest bytes of n, so many, into the buffer from `at` on.
+pub fn put(n: u64, width: usize, at: usize, out: &mut [u8])
+    requires { ⌜ at + width ≤ length (now out) ⌝ }
+    ensures { λ _. ⌜ now (out .exit) ≡ putAt at (inBytes width n) (now (out .entry)) ⌝ }
+{
+    let mut rest = n;
+    let mut left = width;
+    while 0 < left {
+        left = left - 1;
+        out[at + left] = byte(rest);
+        rest = rest / 256;
+    }
+}
+
+// In 32 bits.
+pub fn twos_complement(z: i64) -> u64
+    ensures { λ r. ⌜ r ≡ twosComplement32 z ⌝ }
+{
+    if z < 0 {
+        4_294_967_295 - ((0 - (z + 1)) as u64) % 4_294_967_296
+    } else {
+        z as u64
+    }
 }

@@ -36,5 +36,6 @@ pub mod Enclosure
 pub mod Slots
 pub mod Layouts
 pub mod Reading
+pub mod InBytes
 pub mod SheetBounds
 pub mod Places
