@@ -24,6 +24,7 @@ asGround code.YearOutside = method.yearOutside
 asGround code.NoCurve = method.noCurve
 asGround code.BufferTooShort = method.bufferTooShort
 asGround code.AgeAboveLimit = method.ageAboveLimit
+asGround code.NoHighRate = method.noHighRate
 
 abbrev pub asOutcome : {A : Type 0} → Verdict → A → Outcome A
 asOutcome Passed a = done a

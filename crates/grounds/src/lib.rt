@@ -21,6 +21,7 @@ pub enum Ground {
     NoCurve,
     BufferTooShort,
     AgeAboveLimit,
+    NoHighRate,
 }
 
 pub enum Verdict {
@@ -48,6 +49,7 @@ fn ground_number(g: Ground) -> u64
         Ground::NoCurve => 14,
         Ground::BufferTooShort => 15,
         Ground::AgeAboveLimit => 16,
+        Ground::NoHighRate => 17,
     }
 }
 
@@ -55,22 +57,13 @@ fn ground_place(g: Ground) -> u64
     ensures { λ r. ⌜ r ≡ placeOf (asGround g) ⌝ }
 {
     match g {
-        Ground::WrongLength => 0,
         Ground::WrongRecord(record) => record,
         Ground::OutOfRange(record) => record,
-        Ground::NoVolume => 0,
-        Ground::AfterToldMonth => 0,
-        Ground::BeforeStandingCurve => 0,
         Ground::LowBelowOne(year) => year,
         Ground::HighAboveLimit(year) => year,
         Ground::EndFailsTest(year) => year,
         Ground::BandTooWide(year) => year,
-        Ground::MonthAboveLast => 0,
-        Ground::MonthBeforeTold => 0,
-        Ground::YearOutside => 0,
-        Ground::NoCurve => 0,
-        Ground::BufferTooShort => 0,
-        Ground::AgeAboveLimit => 0,
+        _ => 0,
     }
 }
 

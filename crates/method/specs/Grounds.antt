@@ -19,6 +19,7 @@ pub data Ground : Type 0 where
   noCurve : Ground
   bufferTooShort : Ground
   ageAboveLimit : Ground
+  noHighRate : Ground
 
 abbrev pub numberOf : Ground → ℕ
 numberOf wrongLength = 1
@@ -37,6 +38,7 @@ numberOf yearOutside = 13
 numberOf noCurve = 14
 numberOf bufferTooShort = 15
 numberOf ageAboveLimit = 16
+numberOf noHighRate = 17
 
 -- a record from 1, a year, or 0 where none is named
 abbrev pub placeOf : Ground → ℕ
@@ -56,6 +58,7 @@ placeOf yearOutside = 0
 placeOf noCurve = 0
 placeOf bufferTooShort = 0
 placeOf ageAboveLimit = 0
+placeOf noHighRate = 0
 
 -- ---- a result, or the first ground that applies
 

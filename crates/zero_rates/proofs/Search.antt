@@ -1,0 +1,87 @@
+-- The multipliers that the halving comes to: the largest that stays below, the smallest that reaches.
+use mathlib.Core.Path.{_≡_, sym, ap, _∙_}
+use mathlib.Core.Bool.{Bool, true, false, not}
+use Prim.Native.Nat.{ℕ, zero, suc, _≤_, _<_}
+use native.Mathlib.Nat.{mul-le-mul, mul-le-mul-left, mul-le-mul-right, le-trans}
+use native.Mathlib.Omega.{arith}
+use lib.Dec.{lit<}
+use borrow.Author.Tests.{leb-true, le-leb, not-true, not-false}
+use Rattle.method.specs.Units.{rateUnit}
+use Rattle.method.proofs.Outcome.{split}
+use Rattle.method.proofs.Quotients.{ceilDiv-≤}
+use Rattle.method.proofs.HalvingLaws.{Falls, halve-within, halve-low-passes, halve-high-fails, ends-met, halve-last, halve-first}
+use Rattle.zero_rates.specs.Rates.{compound, staysBelow, reaches, lowMultiplier, highMultiplier, leastMultiplier, greatestMultiplier}
+use Rattle.zero_rates.proofs.Compounding.{compound-mono}
+
+-- ---- each test holds on one side of somewhere
+
+pub stays-falls : (t high : ℕ) → Falls (staysBelow t high)
+unfolding staysBelow
+stays-falls t high a b h passes = le-leb _ _ (le-trans (mul-le-mul-left high (compound-mono _ h _)) (leb-true _ _ passes))
+
+pub reaches-rises : (t low a b : ℕ) → a ≤ b → reaches t low a ≡ true → reaches t low b ≡ true
+unfolding reaches
+reaches-rises t low a b h passes = le-leb _ _ (le-trans (leb-true _ _ passes) (mul-le-mul-left low (compound-mono _ h _)))
+
+pub misses-falls : (t low : ℕ) → Falls (λ m. not (reaches t low m))
+misses-falls t low a b h fails =
+    split (reaches t low a) (λ q. absurd (both (sym (not-true _ fails) ∙ reaches-rises t low a b h q))) (λ q. ap not q)
+  where
+    both : false ≡ true → ⊥
+    both e = let z : _≡_ {A = ℕ} 0 1 = cc in omega arith
+
+-- ---- the least multiplier halves, so that what it grows to stays below, however many years
+
+halves : (t : ℕ) → compound true leastMultiplier (suc t) ≤ 500_000_000
+unfolding compound
+halves zero = omega arith
+halves (suc t) = ceilDiv-≤ {m = 500_000_000} {d = rateUnit} (lit< tt) (omega (arith, mul-le-mul-right leastMultiplier (halves t)))
+
+pub least-stays : (t high : ℕ) → 1 ≤ t → high ≤ 2_000_000_000 → staysBelow t high leastMultiplier ≡ true
+unfolding staysBelow
+least-stays zero high h k = absurd (omega arith)
+least-stays (suc t) high h k = le-leb _ _ (mul-le-mul k (halves t))
+
+-- ---- the low multiplier
+
+pub record LargestBelow (t high m : ℕ) : Type 0 where
+  pub least : leastMultiplier ≤ m
+  pub greatest : m ≤ greatestMultiplier
+  pub stays : staysBelow t high m ≡ true
+  pub none-above : (k : ℕ) → k ≤ greatestMultiplier → staysBelow t high k ≡ true → k ≤ m
+
+pub low-found : (t high : ℕ) → 1 ≤ t → high ≤ 2_000_000_000 → LargestBelow t high (lowMultiplier t high)
+unfolding lowMultiplier
+low-found t high h k =
+    let test = staysBelow t high in
+    let falls = stays-falls t high in
+    let within = halve-within test 150_001 50_000 200_001 (omega arith) in
+    let met = ends-met test falls 50_000 200_001 (omega arith) in
+    record {
+      least = within .above;
+      greatest = omega arith;
+      stays = halve-low-passes test 150_001 50_000 200_001 (least-stays t high h k);
+      none-above = λ k below passes. halve-last test falls 50_000 200_001 (omega arith) k (omega arith) passes;
+    }
+
+-- ---- the high multiplier, where the greatest reaches
+
+pub record SmallestReaching (t low m : ℕ) : Type 0 where
+  pub least : leastMultiplier ≤ m
+  pub greatest : m ≤ greatestMultiplier
+  pub reached : reaches t low m ≡ true
+  pub none-below : (k : ℕ) → leastMultiplier ≤ k → reaches t low k ≡ true → m ≤ k
+
+pub high-found : (t low : ℕ) → reaches t low greatestMultiplier ≡ true → SmallestReaching t low (highMultiplier t low)
+unfolding highMultiplier
+high-found t low h =
+    let fails : ℕ → Bool = λ m. not (reaches t low m) in
+    let falls = misses-falls t low in
+    let within = halve-within fails 150_001 49_999 200_000 (omega arith) in
+    let met = ends-met fails falls 49_999 200_000 (omega arith) in
+    record {
+      least = omega arith;
+      greatest = within .below;
+      reached = not-false _ (halve-high-fails fails 150_001 49_999 200_000 (ap not h));
+      none-below = λ k above passes. halve-first fails falls 49_999 200_000 (omega arith) k (omega arith) (ap not passes);
+    }

@@ -1,0 +1,1 @@
+// The annual zero rates of a year's band: definitions and theorems, no function.
