@@ -9,12 +9,14 @@ use native.Mathlib.Omega.{arith}
 use borrow.Author.Tests.{leb-true, le-leb}
 use lib.Dec.{leb}
 use lib.ListN.{length}
-use Rattle.method.specs.Grounds.{yearOutside, bufferTooShort, ageAboveLimit, refused, done, _>>=_, demand}
+use Rattle.method.specs.Units.{Pair, SignedPair}
+use Rattle.method.specs.Grounds.{yearOutside, bufferTooShort, ageAboveLimit, noHighRate, refused, done, _>>=_, demand}
 use Rattle.method.specs.Curve.{Curve}
 use Rattle.method.proofs.Outcome.{split, bind-done, demand-done, done-injective, refused-not-done, both-true}
+use Rattle.zero_rates.specs.Rates.{greatestMultiplier, reaches, zeroRates}
 use Rattle.ledger.specs.Answers.{Finding, answerNumber}
 use Rattle.ledger.specs.Book.{Standing, none, some, Book, postOutcome, post, withTold, turnOutcome, turn}
-use Rattle.ledger.specs.Book.{young, openCurve, yearInside, lookIn, pageOutcome, pagedBy, pageIn}
+use Rattle.ledger.specs.Book.{young, openCurve, yearInside, bandAt, lookIn, pageOutcome, pagedBy, pageIn}
 use Rattle.ledger.specs.Calls.{Question, lookAt, pageInto, Call, asks, answered, answerOf}
 use Rattle.ledger.specs.Count.{Count, count}
 use Rattle.ledger.specs.Demands.{Closes, TurnCloses, OnlyCloses}
@@ -43,12 +45,13 @@ shown-by s told limit y f e =
     let inside = demand-done (yearInside y) yearOutside _ e in
     let year = both-true (leb 1 y) (leb y 150) (inside .0) in
     let opened = bind-done (openCurve s told limit) _ (inside .1) in
+    let rated = bind-done (zeroRates y (bandAt (opened .0) y)) _ (opened .2) in
     record {
       from-1 = leb-true 1 y (year .0);
       to-150 = leb-true y 150 (year .1);
       curve = opened .0;
       stands = open-stands s told limit (opened .0) (opened .1);
-      month-shown = ap (λ (g : Finding). g .month) (sym (done-injective (opened .2)));
+      month-shown = ap (λ (g : Finding). g .month) (sym (done-injective (rated .2)));
     }
 
 turn-closes-it : (b : Book) (y m : ℕ) (f : Finding) → Shown (b .standing) y f → b .told ≤ m → m ≤ 2_399 → f .month + b .ageLimit < m → Closes b y m
@@ -100,16 +103,21 @@ module _ (told : ℕ) (m : told ≤ 2_399) where
       go (inl e) = inl (rw e)
       go (inr e) = inr (rw e)
 
-  -- 13, 14 or 0
+  -- 13, 14, 17 or 0
   look-never-closed : (s : Standing) (y : ℕ) → answerNumber (lookIn s told 2_399 y) ≡ 16 → ⊥
   unfolding lookIn
-  look-never-closed s y e = go s (leb 1 y && leb y 150) _ e
+  look-never-closed s y e = go s (leb 1 y && leb y 150) _ _ e
     where
-      go : (s : Standing) (inside : Bool) (found : Curve → Finding) →
-          answerNumber (demand inside yearOutside >>= (λ _. openCurve s told 2_399 >>= (λ c. done (found c)))) ≡ 16 → ⊥
-      go s false found e = omega (arith, e)
-      go none true found e = omega (arith, e)
-      go (some c) true found e = omega (arith, rw (largest-opens c) at e)
+      rated : (reached : Bool) (r : SignedPair) (found : SignedPair → Finding) →
+          answerNumber ((demand reached noHighRate >>= (λ _. done r)) >>= (λ r. done (found r))) ≡ 16 → ⊥
+      rated true r found e = omega (arith, e)
+      rated false r found e = omega (arith, e)
+
+      go : (s : Standing) (inside : Bool) (band : Curve → Pair) (found : Curve → SignedPair → Finding) →
+          answerNumber (demand inside yearOutside >>= (λ _. openCurve s told 2_399 >>= (λ c. zeroRates y (band c) >>= (λ r. done (found c r))))) ≡ 16 → ⊥
+      go s false band found e = omega (arith, e)
+      go none true band found e = omega (arith, e)
+      go (some c) true band found e = rated (reaches y (band c .low) greatestMultiplier) _ (found c) (rw (largest-opens c) at e)
 
   -- 14, 15 or 0
   page-never-closed : (s : Standing) (l : List ℕ) → answerNumber (pageIn s told 2_399 l .answer) ≡ 16 → ⊥

@@ -13,9 +13,10 @@ use Rattle.method.specs.Grounds.{Ground, numberOf, yearOutside, noCurve, buffer
 use Rattle.method.specs.Curve.{Curve}
 use Rattle.method.specs.Enclosure.{lowOf, highOf}
 use Rattle.method.proofs.Outcome.{split}
+use Rattle.zero_rates.specs.Rates.{zeroRates}
 use Rattle.ledger.specs.Answers.{answerNumber, finding}
 use Rattle.ledger.specs.Page.{pageBytes}
-use Rattle.ledger.specs.Book.{Standing, none, some, Book, Paged, age, young, openCurve, lookIn, pageOutcome, pagedBy, pageIn, page}
+use Rattle.ledger.specs.Book.{Standing, none, some, Book, Paged, age, young, openCurve, bandAt, lookIn, pageOutcome, pagedBy, pageIn, page}
 use Rattle.ledger.specs.Tells.{PageWritten}
 use Rattle.ledger.specs.Demands.{CurveFits}
 use Rattle.ledger.proofs.PageLaws.{page-length, page-read}
@@ -57,8 +58,9 @@ module _ (s : Standing) (told limit : ℕ) where
       (λ p. split (leb y 150) (λ q. absurd (n (leb-true 1 y p) (leb-true y 150 q))) (λ q. rw (p, q)))
       (λ p. rw p)
 
+  -- what is found of an open curve, by its rates
   pub look-open : (y : ℕ) (c : Curve) → openCurve s told limit ≡ done c → 1 ≤ y → y ≤ 150 →
-      lookIn s told limit y ≡ done (finding (lowOf c y) (highOf c y) (c .month) (age told c))
+      lookIn s told limit y ≡ (zeroRates y (bandAt c y) >>= λ r. done (finding (bandAt c y) r (c .month) (age told c)))
   unfolding lookIn
   look-open y c e h k = rw (le-leb 1 y h, le-leb y 150 k, e)
 

@@ -2,13 +2,19 @@
 -- February's curve under a March heading, is refused by demand 3 itself. What is seen of one book stands in one list, so that the
 -- book's curve is worked once.
 use mathlib.Core.Path.{_≡_, refl, ap}
-use mathlib.Core.List.{List, [], _∷_}
+use mathlib.Core.List.{List, [], _∷_, _++_, map}
 use Prim.Native.Nat.{ℕ, _-_, _≤_}
 use native.Mathlib.Omega.{arith}
+use lib.IntN.{ℤ, pos}
 use lib.ListN.{replicate, take, drop}
+use lib.Signed.{leZ-yes}
+use Rattle.method.specs.Units.{pair, SignedPair, signedPair}
 use Rattle.method.specs.Grounds.{numberOf, noCurve, ageAboveLimit, Outcome, refused, done}
 use Rattle.method.specs.Figures.{sheetOf, rateRecords, volumeRecords}
 use Rattle.method.proofs.Computes.{computes}
+use Rattle.zero_rates.specs.Meaning.{grown, AtMost, HighRateExists}
+use Rattle.zero_rates.proofs.Computes.{rates-compute}
+use Rattle.zero_rates.proofs.Theorem.{exists-by, greatest-reaches}
 use Rattle.ledger.specs.Answers.{Finding, finding, answerNumber}
 use Rattle.ledger.specs.Page.{yearRecords, pageBytes}
 use Rattle.ledger.specs.Book.{Book, fresh, post, postOutcome, turn, turnOutcome, lookIn, lookUp, page, pageOutcome}
@@ -38,7 +44,7 @@ day =
 
 -- opens what the examples compute with
 calls-open : ℕ
-unfolding post postOutcome turn turnOutcome lookIn pageOutcome pageBytes yearRecords acceptsSheet acceptsMonth
+unfolding rates-compute post postOutcome turn turnOutcome lookIn pageOutcome pageBytes yearRecords acceptsSheet acceptsMonth
 calls-open = 0
 
 -- a look-up: the ground's number, or 0, low, high, month and age
@@ -154,6 +160,40 @@ own-month-seen = refl
 limits : ((fresh 0 .ageLimit ≡ 0) × (fresh 2_399 .ageLimit ≡ 2_399)) × ((fresh 2_400 .ageLimit ≡ 2_399) × (fresh 5_000 .ageLimit ≡ 2_399))
 limits = ((refl, refl), (refl, refl))
 
+-- ---- a sheet so steep that some years have no high rate up to 100,000
+
+steep : List ℕ
+steep = sheetOf 0 (replicate 9 0 ++ replicate 8 11_111) (replicate 5 1) 10_000 100_000
+
+-- a look-up's rates, or the ground's number
+rates : Book → ℕ → List ℤ
+rates b y = numbers (lookUp b y)
+  where
+    numbers : Outcome Finding → List ℤ
+    numbers (refused g) = pos (numberOf g) ∷ []
+    numbers (done f) = f .lowRate ∷ f .highRate ∷ []
+
+steep-opens : ℕ
+unfolding opens steep rates
+steep-opens = 0
+
+-- year 9 lies before the leap, years 10 to 17 answer 17, year 150 is 0 to 10: 17
+steep-rates : map (rates (run 2_399 (postOf steep ∷ []))) (9 ∷ 10 ∷ 17 ∷ 18 ∷ 20 ∷ 150 ∷ [])
+    ≡ (pos 0 ∷ pos 0 ∷ [])
+    ∷ (pos 17 ∷ [])
+    ∷ (pos 17 ∷ [])
+    ∷ (pos 99_811 ∷ pos 99_841 ∷ [])
+    ∷ (pos 88_428 ∷ pos 88_447 ∷ [])
+    ∷ (pos 17 ∷ [])
+    ∷ []
+unfolding steep-opens
+steep-rates = refl
+
+-- and its page has the pairs of these years all the same
+steep-paged : take 10 (drop 1_495 (page (run 2_399 (postOf steep ∷ [])) (replicate 1_505 7) .buffer)) ≡ 0x59 ∷ 150 ∷ 0 ∷ 0 ∷ 0 ∷ 0 ∷ 0 ∷ 0 ∷ 0 ∷ 10 ∷ []
+unfolding steep-opens
+steep-paged = refl
+
 -- ---- demand 3 refuses a wrong answer: February's factors with March's month and age
 
 march-band : bandOf march 20 .low ≡ 553_675_753
@@ -170,9 +210,13 @@ abbrev low-of : Outcome Finding → ℕ
 low-of (refused g) = 0
 low-of (done f) = f .low
 
-february-under-march : LookTells 2_399 (count day) 20 (done (finding 1_000_000_000 1_000_000_000 2 1)) → ⊥
-february-under-march tells =
-    let found = tells .finds march march-sheet young (omega arith) (omega arith) .found in
+march-rated : HighRateExists 20 (bandOf march 20 .low)
+unfolding opens
+march-rated = exists-by 20 553_675_753 refl
+
+february-under-march : (r : SignedPair) → LookTells 2_399 (count day) 20 (done (finding (pair 1_000_000_000 1_000_000_000) r 2 1)) → ⊥
+february-under-march r tells =
+    let found = tells .finds march march-sheet young (omega arith) (omega arith) march-rated .found in
     let low : _≡_ {A = ℕ} 1_000_000_000 (bandOf march 20 .low) = ap low-of found in
     omega (arith, low, march-band)
 
@@ -195,11 +239,41 @@ month-7 : monthOf old ≡ 7
 unfolding ages-open
 month-7 = refl
 
-old-curve-shown : LookTells 3 (in-month 11) 20 (done (finding 1_000_000_000 1_000_000_000 7 4)) → ⊥
-old-curve-shown tells = refusal-kept refl (tells .too-old old refl (omega (arith, month-7)) (omega arith) (omega arith))
+old-rated : HighRateExists 20 (bandOf old 20 .low)
+unfolding ages-open
+old-rated = exists-by 20 1_000_000_000 refl
+
+old-curve-shown : (f : Finding) → LookTells 3 (in-month 11) 20 (done f) → ⊥
+old-curve-shown f tells = refusal-kept refl (tells .too-old old refl (omega (arith, month-7)) (omega arith) (omega arith))
 
 old-curve-missing : LookTells 3 (in-month 11) 20 (refused noCurve) → ⊥
 old-curve-missing tells = other-ground refl (tells .too-old old refl (omega (arith, month-7)) (omega arith) (omega arith)) (λ n. omega (arith, n))
 
 closed-at-limit : LookTells 3 (in-month 10) 20 (refused ageAboveLimit) → ⊥
-closed-at-limit tells = refusal-kept (tells .finds old refl (omega (arith, month-7)) (omega arith) (omega arith) .found) refl
+closed-at-limit tells = refusal-kept (tells .finds old refl (omega (arith, month-7)) (omega arith) (omega arith) old-rated .found) refl
+
+-- ---- and of the rates: a low rate that is not the largest; a year without a high rate shown all the same
+
+low-rate-of : Outcome Finding → ℤ
+low-rate-of (refused g) = pos 0
+low-rate-of (done f) = f .lowRate
+
+-- March's year 20 has 2.999% to 3.001%
+march-passes : AtMost 20 (bandOf march 20 .high) (pos 2_999)
+unfolding opens grown
+march-passes = leZ-yes tt
+
+low-rate-too-low : LookTells 2_399 (count day) 20 (done (finding (pair 553_675_753 553_675_756) (signedPair (pos 2_998) (pos 3_001)) 2 1)) → ⊥
+unfolding low-rate-of
+low-rate-too-low tells =
+    let finds = tells .finds march march-sheet young (omega arith) (omega arith) march-rated in
+    let shown : pos 2_998 ≡ finds .rates .low = ap low-rate-of (finds .found) in
+    let largest = finds .band-rates .low-rate .none-above (pos 2_999) (record { from = leZ-yes tt; to = leZ-yes tt }) march-passes in
+    rw (← shown) at largest .le
+
+steep-unrated : HighRateExists 150 (bandOf steep 150 .low) → ⊥
+unfolding steep-opens
+steep-unrated exists = let z : _≡_ {A = ℕ} 0 1 = cc (greatest-reaches 150 0 exists) in omega arith
+
+unrated-shown : (f : Finding) → LookTells 2_399 (record { told = 0; sheet = posted steep }) 150 (done f) → ⊥
+unrated-shown f tells = refusal-kept refl (tells .no-high-rate steep refl (omega arith) (omega arith) (omega arith) steep-unrated)

@@ -2,24 +2,28 @@
 use mathlib.Core.Path.{_≡_, refl, ap, sym, _∙_}
 use mathlib.Core.Bool.{Bool, true, false, not, _&&_}
 use mathlib.Core.List.{List, [], _∷_, _++_}
-use Prim.Native.Nat.{ℕ, zero, suc}
+use Prim.Native.Nat.{ℕ, zero, suc, _*_}
 use native.Mathlib.Omega.{arith}
 use borrow.Author.Tests.{leb-true, leb-false, le-leb, lt-ltb, le-ltb}
 use lib.Dec.{leb, ltb, eqb, eqb·suc-zero}
 use lib.ListN.{length, drop}
+use lib.IntN.{pos}
+use Rattle.fraction.specs.Rounding.{U}
 use Rattle.method.specs.Grounds.{Ground, wrongLength, wrongRecord, outOfRange, noVolume, afterToldMonth, beforeStandingCurve, monthAboveLast}
-use Rattle.method.specs.Grounds.{monthBeforeTold, yearOutside, noCurve, bufferTooShort, ageAboveLimit}
+use Rattle.method.specs.Grounds.{monthBeforeTold, yearOutside, noCurve, bufferTooShort, ageAboveLimit, noHighRate}
 use Rattle.method.specs.Grounds.{Outcome, refused, done, _>>=_, demand}
 use Rattle.method.specs.Sheet.{Numbers, readSheet, sheetNumbers, layoutOf, sizeOf, slotsOf, firstFailure, rightRecord, inRange, total}
 use Rattle.method.specs.Curve.{Curve, curveOf}
-use Rattle.method.specs.Enclosure.{lowOf, highOf}
+use Rattle.method.specs.Enclosure.{lowOf}
 use Rattle.method.proofs.Outcome.{split}
 use Rattle.method.proofs.Layouts.{either-length}
+use Rattle.zero_rates.specs.Rates.{greatestMultiplier, compound, reaches, ratesOf, zeroRates}
+use Rattle.zero_rates.proofs.Compounding.{grown-is}
 use Rattle.ledger.specs.Answers.{finding}
 use Rattle.ledger.specs.Page.{pageBytes}
 use Rattle.ledger.specs.Book.{Standing, none, some, Book, Booked, booked, notBefore, postOutcome, withCurve, post, turnOutcome, withTold, turn}
-use Rattle.ledger.specs.Book.{openCurve, age, lookIn, lookUp, pageOutcome, pagedBy, page}
-use Rattle.ledger.specs.Demands.{Applies, when, first, standsAfter, vacant, tooOld, foundIn, monthIn, Demand1}
+use Rattle.ledger.specs.Book.{openCurve, age, bandAt, lookIn, lookUp, pageOutcome, pagedBy, page}
+use Rattle.ledger.specs.Demands.{Applies, when, first, standsAfter, vacant, tooOld, beyondReach, foundIn, monthIn, Demand1}
 use Rattle.ledger.specs.Demands.{postGrounds, turnGrounds, lookGrounds, pageGrounds}
 use Rattle.ledger.proofs.Asked.{refusal-kept, page-refused}
 
@@ -99,23 +103,42 @@ turn-outcome-first b m =
     rw (not-at-most 2_399 m, not-at-most m (b .told))
     (demand-first (leb m 2_399) monthAboveLast _ (twelve ∷ []) (done m) (demand-first (leb (b .told) m) monthBeforeTold (done m) [] (done m) refl))
 
--- 14, then 16, then what is found
+-- the greatest rate does not reach
+not-reached : (c : Curve) (y : ℕ) → beyondReach (some c) y ≡ not (reaches y (lowOf c y) greatestMultiplier)
+unfolding reaches
+not-reached c y = rw (grown-is greatestMultiplier (pos 100_000) refl false y) (not-at-most (lowOf c y * compound false greatestMultiplier y) (U * U))
+
+-- 17, then what is found
+rated-first : (c : Curve) (told y : ℕ) →
+    (zeroRates y (bandAt c y) >>= (λ r. done (finding (bandAt c y) r (c .month) (age told c))))
+    ≡ first (when (beyondReach (some c) y) noHighRate ∷ []) (done (foundIn told (some c) y))
+rated-first c told y = rw (not-reached c y) (by-test (reaches y (lowOf c y) greatestMultiplier))
+  where
+    by-test : (reached : Bool) →
+        ((demand reached noHighRate >>= (λ _. done (ratesOf y (bandAt c y)))) >>= (λ r. done (finding (bandAt c y) r (c .month) (age told c))))
+        ≡ first (when (not reached) noHighRate ∷ []) (done (foundIn told (some c) y))
+    by-test true = refl
+    by-test false = refl
+
+-- 14 and 16 before them
 open-first : (k : Standing) (told limit y : ℕ) →
-    (openCurve k told limit >>= (λ c. done (finding (lowOf c y) (highOf c y) (c .month) (age told c))))
-    ≡ first (when (vacant k) noCurve ∷ when (tooOld k told limit) ageAboveLimit ∷ []) (done (foundIn told k y))
+    (openCurve k told limit >>= (λ c. zeroRates y (bandAt c y) >>= (λ r. done (finding (bandAt c y) r (c .month) (age told c)))))
+    ≡ first (when (vacant k) noCurve ∷ when (tooOld k told limit) ageAboveLimit ∷ when (beyondReach k y) noHighRate ∷ []) (done (foundIn told k y))
 open-first none told limit y = refl
 open-first (some c) told limit y = rw (not-at-most limit (age told c)) (by-test (leb (age told c) limit))
   where
     by-test : (young : Bool) →
-        ((demand young ageAboveLimit >>= (λ _. done c)) >>= (λ c. done (finding (lowOf c y) (highOf c y) (c .month) (age told c))))
-        ≡ first (when (not young) ageAboveLimit ∷ []) (done (foundIn told (some c) y))
-    by-test true = refl
+        ((demand young ageAboveLimit >>= (λ _. done c))
+        >>= (λ c. zeroRates y (bandAt c y) >>= (λ r. done (finding (bandAt c y) r (c .month) (age told c)))))
+        ≡ first (when (not young) ageAboveLimit ∷ when (beyondReach (some c) y) noHighRate ∷ []) (done (foundIn told (some c) y))
+    by-test true = rated-first c told y
     by-test false = refl
 
 look-first-is : (b : Book) (y : ℕ) → lookUp b y ≡ first (lookGrounds b y) (done (foundIn (b .told) (b .standing) y))
 unfolding lookIn lookGrounds
 look-first-is b y =
-    let later = when (vacant (b .standing)) noCurve ∷ when (tooOld (b .standing) (b .told) (b .ageLimit)) ageAboveLimit ∷ [] in
+    let seventeen = when (beyondReach (b .standing) y) noHighRate in
+    let later = when (vacant (b .standing)) noCurve ∷ when (tooOld (b .standing) (b .told) (b .ageLimit)) ageAboveLimit ∷ seventeen ∷ [] in
     let found = done (foundIn (b .told) (b .standing) y) in
     rw (no-year y, not-at-most 150 y) (go _ (leb 1 y) (leb y 150) later found (open-first (b .standing) (b .told) (b .ageLimit) y))
   where

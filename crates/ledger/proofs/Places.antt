@@ -7,10 +7,12 @@ use lib.ListN.{length}
 use Rattle.method.specs.Grounds.{Outcome, refused, done}
 use Rattle.method.specs.Sheet.{readSheet}
 use Rattle.method.proofs.Places.{place, bind-place, demand-place, read-place, curve-place}
+use Rattle.method.specs.Enclosure.{lowOf}
+use Rattle.zero_rates.specs.Rates.{greatestMultiplier, reaches, zeroRates}
 use Rattle.ledger.specs.Answers.{answerPlace}
 use Rattle.ledger.specs.Page.{pageLength}
 use Rattle.ledger.specs.Book.{Standing, none, some, Book, booked, notBefore, postOutcome, post, lastMonth, turnOutcome, turn}
-use Rattle.ledger.specs.Book.{young, openCurve, yearInside, lookIn, lookUp, pageOutcome, pagedBy, page}
+use Rattle.ledger.specs.Book.{young, openCurve, yearInside, bandAt, lookIn, lookUp, pageOutcome, pagedBy, page}
 use Rattle.ledger.specs.Calls.{Call, postOf, turnTo, asks, lookAt, pageInto, answerOf}
 
 -- a refusal is answered as it is, and an accepted call at place 0
@@ -33,7 +35,7 @@ post-place b s =
     λ n e. demand-place (leb (n .month) (b .told)) _ _ (omega arith)
     (demand-place (notBefore (b .standing) (n .month)) _ _ (omega arith) (curve-place n)))
 
--- ---- the other calls: 11 to 16 have place 0
+-- ---- the other calls: 11 to 17 have place 0
 
 turn-place : (b : Book) (m : ℕ) → answerPlace (turn b m .answer) ≤ 0
 unfolding turn turnOutcome
@@ -49,7 +51,9 @@ look-place : (b : Book) (y : ℕ) → answerPlace (lookUp b y) ≤ 0
 unfolding lookIn
 look-place b y =
     demand-place (yearInside y) _ _ (omega arith)
-    (bind-place (openCurve (b .standing) (b .told) (b .ageLimit)) _ (open-place (b .standing) (b .told) (b .ageLimit)) λ c e. omega arith)
+    (bind-place (openCurve (b .standing) (b .told) (b .ageLimit)) _ (open-place (b .standing) (b .told) (b .ageLimit))
+    λ c e. bind-place (zeroRates y (bandAt c y)) _ (demand-place (reaches y (lowOf c y) greatestMultiplier) _ _ (omega arith) (omega arith))
+    λ r d. omega arith)
 
 page-place : (b : Book) (l : List ℕ) → answerPlace (page b l .answer) ≤ 0
 unfolding pageOutcome

@@ -7,12 +7,16 @@ use borrow.Author.Tests.{leb-true, leb-false}
 use lib.Dec.{leb}
 use lib.ListN.{length, getD}
 use Rattle.method.specs.Units.{pair}
-use Rattle.method.specs.Grounds.{noCurve, bufferTooShort, ageAboveLimit, refused, done}
+use Rattle.method.specs.Grounds.{noCurve, bufferTooShort, ageAboveLimit, noHighRate, refused, done, _>>=_}
 use Rattle.method.specs.Curve.{Curve, answer}
 use Rattle.method.specs.Enclosure.{CurveHolds, lowOf, highOf}
 use Rattle.method.proofs.Enclosure.{enclosure}
 use Rattle.method.proofs.Outcome.{split}
-use Rattle.ledger.specs.Book.{none, some, Book, Paged, openCurve, lookUp, page}
+use Rattle.zero_rates.specs.Rates.{greatestMultiplier, reaches, ratesOf, zeroRates}
+use Rattle.zero_rates.specs.Meaning.{HighRateExists}
+use Rattle.zero_rates.proofs.Theorem.{zero-rates, no-rate, rates-ordered, rates-between}
+use Rattle.ledger.specs.Answers.{finding}
+use Rattle.ledger.specs.Book.{none, some, Book, Paged, age, openCurve, bandAt, lookUp, page}
 use Rattle.ledger.specs.Calls.{lookAt, pageInto, Call, postOf, turnTo, asks, run}
 use Rattle.ledger.specs.Count.{LastSheet, unposted, posted, Count, monthOf, typed, acceptsSheet, acceptsMonth, counted, countFrom, nothing, count}
 use Rattle.ledger.specs.Tells.{bandIn, bandOf, Band, Finds, LookTells, PageWritten, PageTells}
@@ -84,13 +88,26 @@ module _ (told : ℕ) (s : List ℕ) (g : Sound told (posted s)) where
     closed-held : limit < told - monthOf s → openCurve (held .standing) told made-with ≡ refused ageAboveLimit
     closed-held h = closed-old (held .standing) told made-with curve stands (rw (answer-month s worked) (omega arith))
 
-    finds-of : (c : Count) → c .told ≡ told → told - monthOf s ≤ limit → (y : ℕ) → 1 ≤ y → y ≤ 150 → Finds c s y (lookUp held y)
-    finds-of c e within y h k =
-        record {
-          not-after-told = rw e (g .1);
-          found = rw (look-open (held .standing) told made-with y curve (open-held within) h k, band-at y, e, answer-month s worked);
-          band = band-of y h k;
-        }
+    module _ (within : told - monthOf s ≤ limit) (y : ℕ) (h : 1 ≤ y) (k : y ≤ 150) where
+      -- what the curve's rates make of the look-up
+      looked : lookUp held y ≡ (zeroRates y (bandAt curve y) >>= λ r. done (finding (bandAt curve y) r (curve .month) (age told curve)))
+      looked = look-open (held .standing) told made-with y curve (open-held within) h k
+
+      finds-of : (c : Count) → c .told ≡ told → HighRateExists y (bandOf s y .low) → Finds c s y (lookUp held y)
+      finds-of c e exists =
+          let rated = zero-rates y (bandAt curve y) h (holds .at-most y h k) (rw (band-at y) at exists) in
+          record {
+            not-after-told = rw e (g .1);
+            rates = ratesOf y (bandOf s y);
+            found = rw (looked, rated .0, band-at y, e, answer-month s worked);
+            band = band-of y h k;
+            band-rates = rw (band-at y) (rated .1);
+            rates-ordered = rates-ordered y (bandOf s y) _ h (band-of y h k .ordered) (rw (band-at y) (rated .1));
+            holds-true-rate = λ n. rates-between y (bandOf s y) _ _ (rw (band-at y) (rated .1)) (band-of y h k .holds-true-factor n);
+          }
+
+      look-unrated : (HighRateExists y (bandOf s y .low) → ⊥) → lookUp held y ≡ refused noHighRate
+      look-unrated unrated = rw (looked, no-rate y (bandAt curve y) .1 (rw (band-at y) at unrated))
 
     look-old : limit < told - monthOf s → (y : ℕ) → 1 ≤ y → y ≤ 150 → lookUp held y ≡ refused ageAboveLimit
     look-old older y h k = look-closed (held .standing) told made-with y (closed-held older) h k
@@ -99,7 +116,10 @@ module _ (told : ℕ) (s : List ℕ) (g : Sound told (posted s)) where
     look-never-none : (y : ℕ) → 1 ≤ y → y ≤ 150 → lookUp held y ≡ refused noCurve → ⊥
     look-never-none y h k e =
         split (leb (told - monthOf s) limit)
-        (λ q. refusal-kept (look-open (held .standing) told made-with y curve (open-held (leb-true _ _ q)) h k) e)
+        (λ q. let within = leb-true _ _ q in
+        split (reaches y (lowOf curve y) greatestMultiplier)
+        (λ r. refusal-kept (rw r at (looked within y h k)) e)
+        (λ r. other-ground (rw r at (looked within y h k)) e (λ n. omega (arith, n))))
         (λ q. other-ground (look-old (leb-false _ _ q) y h k) e (λ n. omega (arith, n)))
 
     page-of : (l : List ℕ) → told - monthOf s ≤ limit → 1_505 ≤ length l →
@@ -144,18 +164,20 @@ module _ (limit told : ℕ) (m : told ≤ 2_399) where
       record {
         outside = look-outside none told (min limit 2_399) y;
         none-found = λ h k. (λ e. refl, λ e. look-closed none told (min limit 2_399) y refl h k);
-        finds = λ s e w h k. absurd (never-posted (sym e));
+        finds = λ s e w h k x. absurd (never-posted (sym e));
         too-old = λ s e o h k. absurd (never-posted (sym e));
+        no-high-rate = λ s e w h k x. absurd (never-posted (sym e));
       }
   look-tells (posted s) g y =
       let look = lookUp (book-with (posted s)) y in
       record {
         outside = look-outside (standingOf (posted s)) told (min limit 2_399) y;
         none-found = λ h k. (λ e. absurd (look-never-none told s g limit m y h k e), λ e. absurd (never-posted e));
-        finds = λ t e w h k.
+        finds = λ t e w h k exists.
             let same = same-sheet e in
-            subst (λ x. Finds (count-with (posted s)) x y look) same (finds-of told s g limit m _ refl (rw same w) y h k);
+            subst (λ x. Finds (count-with (posted s)) x y look) same (finds-of told s g limit m (rw same w) y h k _ refl (rw same exists));
         too-old = λ t e o h k. look-old told s g limit m (rw (same-sheet e) o) y h k;
+        no-high-rate = λ t e w h k none. look-unrated told s g limit m (rw (same-sheet e) w) y h k (rw (same-sheet e) none);
       }
 
   page-tells : (h : LastSheet) → Sound told h → (l : List ℕ) → PageTells limit (count-with h) l (page (book-with h) l)

@@ -1,5 +1,7 @@
 -- SPECIFICATION 7 and 9: what a look-up finds; and the number and the place of every answer, 0 and 0 where the call was accepted.
 use Prim.Native.Nat.{ℕ}
+use lib.IntN.{ℤ}
+use Rattle.method.specs.Units.{Pair, SignedPair}
 use Rattle.method.specs.Grounds.{numberOf, placeOf, Outcome, refused, done}
 
 pub record Finding : Type 0 where
@@ -7,9 +9,12 @@ pub record Finding : Type 0 where
   pub high : ℕ
   pub month : ℕ
   pub age : ℕ
+  pub lowRate : ℤ
+  pub highRate : ℤ
 
-abbrev pub finding : ℕ → ℕ → ℕ → ℕ → Finding
-finding l h m a = record { low = l; high = h; month = m; age = a }
+-- a year's band and its zero rates, with the month and the age of the curve
+abbrev pub finding : Pair → SignedPair → ℕ → ℕ → Finding
+finding p r m a = record { low = p .low; high = p .high; month = m; age = a; lowRate = r .low; highRate = r .high }
 
 abbrev pub answerNumber : {A : Type 0} → Outcome A → ℕ
 answerNumber (refused g) = numberOf g

@@ -1,14 +1,16 @@
--- SPECIFICATION 7: the book, and what each call answers and leaves behind, with grounds 1 to 16 in their order.
+-- SPECIFICATION 7: the book, and what each call answers and leaves behind, with grounds 1 to 17 in their order.
 use mathlib.Core.Bool.{Bool, true, _&&_}
 use mathlib.Core.List.{List, _++_}
 use Prim.Native.Nat.{ℕ, _-_, min}
 use lib.Dec.{leb}
 use lib.ListN.{length, drop}
+use Rattle.method.specs.Units.{Pair, pair}
 use Rattle.method.specs.Grounds.{afterToldMonth, beforeStandingCurve, monthAboveLast, monthBeforeTold, yearOutside, noCurve, bufferTooShort, ageAboveLimit}
 use Rattle.method.specs.Grounds.{Outcome, refused, done, _>>=_, demand}
 use Rattle.method.specs.Sheet.{readSheet}
 use Rattle.method.specs.Curve.{Curve, curveOf}
 use Rattle.method.specs.Enclosure.{lowOf, highOf}
+use Rattle.zero_rates.specs.Rates.{zeroRates}
 use Rattle.ledger.specs.Answers.{Finding, finding}
 use Rattle.ledger.specs.Page.{pageBytes, pageLength}
 
@@ -97,16 +99,20 @@ openCurve (some c) told limit = do
   _ ← demand (young c told limit) ageAboveLimit
   done c
 
--- ---- look-up: 13, 14, 16
+-- ---- look-up: 13, 14, 16, 17
 
 abbrev pub yearInside : ℕ → Bool
 yearInside y = leb 1 y && leb y 150
+
+abbrev pub bandAt : Curve → ℕ → Pair
+bandAt c y = pair (lowOf c y) (highOf c y)
 
 unfoldable pub lookIn : Standing → ℕ → ℕ → ℕ → Outcome Finding
 lookIn s told limit y = do
   _ ← demand (yearInside y) yearOutside
   c ← openCurve s told limit
-  done (finding (lowOf c y) (highOf c y) (c .month) (age told c))
+  rates ← zeroRates y (bandAt c y)
+  done (finding (bandAt c y) rates (c .month) (age told c))
 
 abbrev pub lookUp : Book → ℕ → Outcome Finding
 lookUp b y = lookIn (b .standing) (b .told) (b .ageLimit) y

@@ -5,13 +5,18 @@ use mathlib.Core.List.{List, [], _∷_}
 use mathlib.Core.Logic.{_⊎_}
 use Prim.Native.Nat.{ℕ, _+_, _-_, _≤_, _<_}
 use lib.Dec.{ltb, eqb}
+use lib.IntN.{pos, _*ℤ_}
 use lib.ListN.{length, getD}
-use Rattle.method.specs.Units.{pair}
+use lib.Signed.{ltZ}
+use Rattle.method.specs.Units.{pair, signedPair}
 use Rattle.method.specs.Grounds.{Ground, wrongLength, wrongRecord, outOfRange, noVolume, afterToldMonth, beforeStandingCurve}
-use Rattle.method.specs.Grounds.{monthAboveLast, monthBeforeTold, yearOutside, noCurve, bufferTooShort, ageAboveLimit, Outcome, refused, done}
+use Rattle.method.specs.Grounds.{monthAboveLast, monthBeforeTold, yearOutside, noCurve, bufferTooShort, ageAboveLimit, noHighRate}
+use Rattle.method.specs.Grounds.{Outcome, refused, done}
 use Rattle.method.specs.Sheet.{Numbers, readSheet, sheetNumbers, layoutOf, slotsOf, firstFailure, rightRecord, inRange, total}
 use Rattle.method.specs.Curve.{Curve, curveOf}
 use Rattle.method.specs.Enclosure.{lowOf, highOf}
+use Rattle.zero_rates.specs.Rates.{ratesOf}
+use Rattle.zero_rates.specs.Meaning.{grown}
 use Rattle.ledger.specs.Answers.{Finding, finding}
 use Rattle.ledger.specs.Book.{Standing, none, some, Book, fresh, post, turn, lookUp, page}
 use Rattle.ledger.specs.Calls.{Question, Call, postOf, turnTo, asks, run, answered, answerOf}
@@ -101,6 +106,11 @@ abbrev pub tooOld : Standing → ℕ → ℕ → Bool
 tooOld none told limit = false
 tooOld (some c) told limit = ltb limit (told - c .month)
 
+-- a curve stands, and even at the greatest rate, 100,000, low × growth, rounded down, is below U × U
+abbrev pub beyondReach : Standing → ℕ → Bool
+beyondReach none y = false
+beyondReach (some c) y = ltZ (pos (lowOf c y) *ℤ grown false (pos 100_000) y) (pos 1_000_000_000_000_000_000)
+
 -- 1 to 6, each by itself; 7 to 10 are the curve's own
 unfoldable pub postGrounds : Book → List ℕ → List Applies
 postGrounds b s =
@@ -123,6 +133,7 @@ lookGrounds b y =
     ∷ when (ltb 150 y) yearOutside
     ∷ when (vacant (b .standing)) noCurve
     ∷ when (tooOld (b .standing) (b .told) (b .ageLimit)) ageAboveLimit
+    ∷ when (beyondReach (b .standing) y) noHighRate
     ∷ []
 
 unfoldable pub pageGrounds : Book → List ℕ → List Applies
@@ -134,8 +145,8 @@ pageGrounds b l =
 
 -- what a look-up of a year has, where no ground applies
 abbrev pub foundIn : ℕ → Standing → ℕ → Finding
-foundIn told none y = finding 0 0 0 0
-foundIn told (some c) y = finding (lowOf c y) (highOf c y) (c .month) (told - c .month)
+foundIn told none y = finding (pair 0 0) (signedPair (pos 0) (pos 0)) 0 0
+foundIn told (some c) y = let band = pair (lowOf c y) (highOf c y) in finding band (ratesOf y band) (c .month) (told - c .month)
 
 abbrev pub monthIn : Outcome Curve → Outcome ℕ
 monthIn (refused g) = refused g

@@ -4,14 +4,16 @@ use mathlib.Core.Logic.{_↔_}
 use mathlib.Core.List.{List}
 use Prim.Native.Nat.{ℕ, _+_, _*_, _-_, _≤_, _<_}
 use lib.IntN.{pos}
+use lib.Signed.{_≤ℤ_}
 use lib.ListN.{length, getD, drop}
 use Rattle.fraction.specs.Rounding.{Encloses}
-use Rattle.method.specs.Units.{Pair, pair}
-use Rattle.method.specs.Grounds.{Ground, yearOutside, noCurve, bufferTooShort, ageAboveLimit, Outcome, refused, done}
+use Rattle.method.specs.Units.{Pair, pair, SignedPair}
+use Rattle.method.specs.Grounds.{Ground, yearOutside, noCurve, bufferTooShort, ageAboveLimit, noHighRate, Outcome, refused, done}
 use Rattle.method.specs.Curve.{Curve, answer}
 use Rattle.method.specs.Enclosure.{lowOf, highOf}
 use Rattle.method.specs.True.{trueCurve, trueFactor}
-use Rattle.ledger.specs.Answers.{Finding, finding}
+use Rattle.zero_rates.specs.Meaning.{BandRates, HighRateExists, RateBetween}
+use Rattle.ledger.specs.Answers.{Finding}
 use Rattle.ledger.specs.Book.{Paged}
 use Rattle.ledger.specs.Calls.{Question, lookAt, pageInto, AnswerTo}
 use Rattle.ledger.specs.Count.{unposted, posted, Count, monthOf, limitOf, typed}
@@ -35,19 +37,42 @@ pub record Band (s : List ℕ) (y : ℕ) (p : Pair) : Type 0 where
 
 -- ---- a look-up
 
+-- written out here, so that no name is shared with the look-up
+abbrev pub finding : Count → List ℕ → ℕ → SignedPair → Finding
+finding c s y r =
+    record {
+      low = bandOf s y .low;
+      high = bandOf s y .high;
+      month = monthOf s;
+      age = c .told - monthOf s;
+      lowRate = r .low;
+      highRate = r .high;
+    }
+
 pub record Finds (c : Count) (s : List ℕ) (y : ℕ) (a : Outcome Finding) : Type 0 where
   pub not-after-told : monthOf s ≤ c .told
-  pub found : a ≡ done (finding (bandOf s y .low) (bandOf s y .high) (monthOf s) (c .told - monthOf s))
+  pub rates : SignedPair
+  pub found : a ≡ done (finding c s y rates)
   pub band : Band s y (bandOf s y)
+  -- the largest and the smallest of the rule, and the true curve's own rate of every order between them
+  pub band-rates : BandRates y (bandOf s y) rates
+  pub rates-ordered : rates .low ≤ℤ rates .high
+  pub holds-true-rate : (n : ℕ) → RateBetween y rates (trueFactor n (typed s) y)
 
 pub record LookTells (limit : ℕ) (c : Count) (y : ℕ) (a : Outcome Finding) : Type 0 where
   pub outside : (1 ≤ y → y ≤ 150 → ⊥) → a ≡ refused yearOutside
   -- no curve exactly when no post was accepted
   pub none-found : 1 ≤ y → y ≤ 150 → (a ≡ refused noCurve) ↔ (c .sheet ≡ unposted)
-  -- otherwise the last accepted sheet's band, month and age, within the age limit
-  pub finds : (s : List ℕ) → c .sheet ≡ posted s → c .told - monthOf s ≤ limit → 1 ≤ y → y ≤ 150 → Finds c s y a
+  -- otherwise the last accepted sheet's band, rates, month and age, within the age limit and where the year has a high rate
+  pub finds :
+      (s : List ℕ) → c .sheet ≡ posted s → c .told - monthOf s ≤ limit → 1 ≤ y → y ≤ 150 →
+      HighRateExists y (bandOf s y .low) → Finds c s y a
   -- of an older curve the 16 alone
   pub too-old : (s : List ℕ) → c .sheet ≡ posted s → limit < c .told - monthOf s → 1 ≤ y → y ≤ 150 → a ≡ refused ageAboveLimit
+  -- of a year without a high rate the 17 alone
+  pub no-high-rate :
+      (s : List ℕ) → c .sheet ≡ posted s → c .told - monthOf s ≤ limit → 1 ≤ y → y ≤ 150 →
+      (HighRateExists y (bandOf s y .low) → ⊥) → a ≡ refused noHighRate
 
 -- ---- a page, as its reader finds it: record y starts at byte 5 + 10 × (y - 1), numbers have the high byte first
 
@@ -82,6 +107,7 @@ pub record PageTells (limit : ℕ) (c : Count) (l : List ℕ) (p : Paged) : Type
   pub writes :
       (s : List ℕ) → c .sheet ≡ posted s → c .told - monthOf s ≤ limit → 1_505 ≤ length l →
       PageWritten l (monthOf s) (c .told - monthOf s) (bandOf s) p
+  -- every year's, whether it has a high rate or not
   pub bands : (s : List ℕ) → c .sheet ≡ posted s → c .told - monthOf s ≤ limit → (y : ℕ) → 1 ≤ y → y ≤ 150 → Band s y (bandOf s y)
 
 -- ---- any question
