@@ -3,12 +3,12 @@ use mathlib.Core.Bool.{Bool}
 use mathlib.Core.Path.{_≡_}
 use Prim.Native.Nat.{ℕ}
 use lib.Dec.{leb}
-use Rattle.method.specs.Grounds.{afterToldMonth, beforeStandingCurve, Outcome, _>>=_, demand}
+use Rattle.method.specs.Grounds.{afterToldMonth, beforeStandingCurve, Outcome, done, _>>=_, demand}
 use Rattle.method.specs.Sheet.{Numbers}
 use Rattle.method.specs.Curve.{Curve, curveOf}
-use Rattle.method.specs.Enclosure.{lowOf, highOf}
+use Rattle.zero_rates.specs.Rates.{zeroRates}
 use Rattle.ledger.specs.Answers.{Finding, finding}
-use Rattle.ledger.specs.Book.{Book, Booked, booked, notBefore, withCurve, age, openCurve}
+use Rattle.ledger.specs.Book.{Book, Booked, booked, notBefore, withCurve, age, openCurve, bandAt}
 use Rattle.grounds.specs.declared.Verdict.{Verdict}
 use Rattle.grounds.specs.Verdicts.{asOutcome}
 use Rattle.curve.specs.declared.Curve as code
@@ -29,6 +29,8 @@ posted b o = booked b (withCurve b) (λ c. c .month) o
 abbrev pub Opens : Bool → ℕ → ℕ → ℕ → Verdict → Type 0
 Opens has month told limit v = (c : code.Curve) → c .month ≡ month → asOutcome v (asCurve c) ≡ openCurve (asStanding has c) told limit
 
--- what a curve has for a year
-abbrev pub foundAt : Curve → ℕ → ℕ → Finding
-foundAt c told y = finding (lowOf c y) (highOf c y) (c .month) (age told c)
+-- what a curve has for a year, or 17
+abbrev pub foundAt : Curve → ℕ → ℕ → Outcome Finding
+foundAt c told y = do
+  rates ← zeroRates y (bandAt c y)
+  done (finding (bandAt c y) rates (c .month) (age told c))

@@ -2,6 +2,8 @@
 use mathlib.Core.Bool.{Bool, true, false}
 use mathlib.Core.List.{List}
 use Prim.Native.Nat.{ℕ}
+use lib.IntN.{pos}
+use Rattle.method.specs.Units.{pair, signedPair}
 use Rattle.ledger.specs.Answers as answer
 use Rattle.ledger.specs.Answers.{finding}
 use Rattle.ledger.specs.Book as ledger
@@ -26,11 +28,11 @@ abbrev pub asBooked : Booked → ledger.Booked
 asBooked r = record { book = asBook (r .book); answer = asOutcome (r .verdict) (r .month) }
 
 abbrev pub asFinding : Finding → answer.Finding
-asFinding f = finding (f .low) (f .high) (f .month) (f .age)
+asFinding f = finding (pair (f .low) (f .high)) (signedPair (f .«low_rate») (f .«high_rate»)) (f .month) (f .age)
 
 -- what stands beside a refusal
 abbrev pub noFinding : answer.Finding
-noFinding = finding 0 0 0 0
+noFinding = finding (pair 0 0) (signedPair (pos 0) (pos 0)) 0 0
 
 -- the verdict with the buffer at exit
 abbrev pub asPaged : Verdict → List ℕ → ledger.Paged

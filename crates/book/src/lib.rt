@@ -8,10 +8,10 @@ use grounds::Ground;
 use grounds::Verdict;
 use sheet::Numbers;
 ghost use mathlib.Core.Path.{_≡_};
-ghost use Prim.Native.Nat.{_-_, _≤_, min};
+ghost use Prim.Native.Nat.{_-_, _≤_};
 ghost use Rattle.method.specs.Grounds.{done};
 ghost use Rattle.method.specs.Ranges.{NumbersInRange};
-ghost use Rattle.ledger.specs.Book.{largestAgeLimit, fresh, notBefore, withTold, post, turn, lookIn, lookUp, pageIn, page};
+ghost use Rattle.ledger.specs.Book.{fresh, notBefore, withTold, post, turn, lookIn, lookUp, pageIn, page};
 ghost use Rattle.grounds.specs.Verdicts.{asOutcome, resultOr};
 ghost use Rattle.sheet.specs.Views.{asNumbers};
 ghost use Rattle.curve.specs.Curves.{asCurve};
@@ -36,11 +36,14 @@ pub struct Booked {
     pub book: Book,
 }
 
+// A year's band and its zero rates, in hundred-thousandths of one, with the month and the age of the curve.
 pub struct Finding {
     pub low: u64,
     pub high: u64,
     pub month: u64,
     pub age: u64,
+    pub low_rate: i64,
+    pub high_rate: i64,
 }
 
 // The finding is all zero where the look-up is refused.
@@ -49,22 +52,12 @@ pub struct Looked {
     pub finding: Finding,
 }
 
-fn cut(age_limit: u64) -> u64
-    ensures { λ r. ⌜ r ≡ min «age_limit» largestAgeLimit ⌝ }
-{
-    if age_limit < LARGEST_AGE_LIMIT {
-        age_limit
-    } else {
-        LARGEST_AGE_LIMIT
-    }
-}
-
 // Any number makes a book; one above the largest limit, a book with that.
 pub fn fresh(age_limit: u64) -> Book
     ensures { λ r. ⌜ asBook r ≡ fresh «age_limit» ⌝ }
 {
     Book {
-        age_limit: cut(age_limit),
+        age_limit: rounding::smaller(age_limit, LARGEST_AGE_LIMIT),
         told: 0,
         has: false,
         curve: Curve {
@@ -204,18 +197,17 @@ fn opens(has: bool, month: u64, told: u64, age_limit: u64) -> Verdict
 
 // ---- look-up
 
-// What the curve has for a year.
-fn found(curve: Curve, told: u64, year: u64) -> Finding
-    requires { ⌜ (1 ≤ year) × (year ≤ 150) ⌝ }
-    ensures { λ r. ⌜ asFinding r ≡ foundAt (asCurve curve) told year ⌝ }
+// What stands beside a refusal.
+pub fn no_finding() -> Finding
+    ensures { λ r. ⌜ asFinding r ≡ noFinding ⌝ }
 {
-    let years = curve.years;
-    let i = (year - 1) as usize;
     Finding {
-        low: years.lows[i],
-        high: years.highs[i],
-        month: curve.month,
-        age: age(told, curve.month),
+        low: 0,
+        high: 0,
+        month: 0,
+        age: 0,
+        low_rate: 0,
+        high_rate: 0,
     }
 }
 
@@ -225,11 +217,35 @@ fn not_found(verdict: Verdict) -> Looked
 {
     Looked {
         verdict: verdict,
+        finding: no_finding(),
+    }
+}
+
+// What the curve has for a year, or 17.
+fn found(curve: Curve, told: u64, year: u64) -> Looked
+    requires { ⌜ (1 ≤ year) × (year ≤ 150) ⌝ }
+    ensures outcome { λ r. ⌜ asOutcome (r .verdict) (asFinding (r .finding)) ≡ foundAt (asCurve curve) told year ⌝ }
+    ensures beside { λ r. ⌜ asFinding (r .finding) ≡ resultOr noFinding (foundAt (asCurve curve) told year) ⌝ }
+{
+    let years = curve.years;
+    let i = (year - 1) as usize;
+    let low = years.lows[i];
+    let high = years.highs[i];
+    let rated = rate_search::zero_rates(year, low, high);
+    let verdict = rated.verdict;
+    let Verdict::Passed = verdict else {
+        return not_found(verdict);
+    };
+    let rates = rated.rates;
+    Looked {
+        verdict: Verdict::Passed,
         finding: Finding {
-            low: 0,
-            high: 0,
-            month: 0,
-            age: 0,
+            low: low,
+            high: high,
+            month: curve.month,
+            age: age(told, curve.month),
+            low_rate: rates.low,
+            high_rate: rates.high,
         },
     }
 }
@@ -249,10 +265,7 @@ fn look_in(has: bool, curve: Curve, told: u64, age_limit: u64, year: u64) -> Loo
     let Verdict::Passed = verdict else {
         return not_found(verdict);
     };
-    Looked {
-        verdict: Verdict::Passed,
-        finding: found(curve, told, year),
-    }
+    found(curve, told, year)
 }
 
 pub fn look_up(book: Book, year: u64) -> Looked

@@ -3,8 +3,9 @@ use mathlib.Core.List.{List, [], _∷_, _++_}
 use mathlib.Core.Path.{_≡_, refl}
 use Prim.Native.Nat.{ℕ}
 use lib.ListN.{replicate}
-use Rattle.method.specs.Figures.{rateRecords, volumeRecords, zeroSheet}
+use Rattle.method.specs.Figures.{sheetOf, rateRecords, volumeRecords, zeroSheet}
 use Rattle.method.proofs.Computes.{computes}
+use Rattle.zero_rates.proofs.Computes.{rates-compute}
 use Rattle.ledger.specs.Book.{post, postOutcome, turn, turnOutcome, lookIn}
 use Rattle.journal.specs.Journal.{front}
 use Rattle.desk_core.specs.Lines.{digitsTo}
@@ -12,7 +13,7 @@ use Rattle.desk_core.specs.Desk.{printedFrom, printed}
 
 -- opens what the examples compute with
 opens : ℕ
-unfolding computes rateRecords volumeRecords post postOutcome turn turnOutcome lookIn front digitsTo printedFrom printed
+unfolding computes rates-compute rateRecords volumeRecords post postOutcome turn turnOutcome lookIn front digitsTo printedFrom printed
 opens = 0
 
 -- ---- the specification's
@@ -73,6 +74,15 @@ found =
 told-posted-found : printed (0x4D ∷ 0x00 ∷ 0x05 ∷ 0x50 ∷ 0x00 ∷ 109 ∷ zeroSheet 100_000 ++ (0x4C ∷ 21 ∷ [])) ≡ found
 unfolding opens found
 told-posted-found = refl
+
+-- a sheet whose year 10 has no high rate up to 100,000: P 0, R 17 0
+steep : List ℕ
+steep = sheetOf 0 (replicate 9 0 ++ replicate 8 11_111) (replicate 5 1) 10_000 100_000
+
+posted-unrated : printed (0x50 ∷ 0x00 ∷ 109 ∷ steep ++ (0x4C ∷ 10 ∷ []))
+    ≡ (0x50 ∷ 0x20 ∷ 0x30 ∷ 0x0A ∷ []) ++ (0x52 ∷ 0x20 ∷ 0x31 ∷ 0x37 ∷ 0x20 ∷ 0x30 ∷ 0x0A ∷ [])
+unfolding opens steep
+posted-unrated = refl
 
 -- 109 zeros are no sheet: R 2 1
 no-sheet : printed (0x50 ∷ 0x00 ∷ 109 ∷ replicate 109 0) ≡ 0x52 ∷ 0x20 ∷ 0x32 ∷ 0x20 ∷ 0x31 ∷ 0x0A ∷ []

@@ -3,8 +3,7 @@ use big_endian::two_bytes;
 use book::Book;
 use book::Finding;
 use grounds::Verdict;
-ghost use mathlib.Core.Path.{_≡_};
-ghost use Rattle.book.specs.Views.{asBook, asFinding, noFinding};
+ghost use Rattle.book.specs.Views.{asBook};
 ghost use Rattle.journal.specs.Journal.{postFront, turnFront, lookFront};
 ghost use Rattle.journal.specs.Made.{NoCall, MakesFront, Makes};
 
@@ -27,17 +26,6 @@ pub struct Made {
     pub book: Book,
 }
 
-fn no_finding() -> Finding
-    ensures { λ r. ⌜ asFinding r ≡ noFinding ⌝ }
-{
-    Finding {
-        low: 0,
-        high: 0,
-        month: 0,
-        age: 0,
-    }
-}
-
 // The book is handed back as it was.
 fn no_call(book: Book, reply: Reply) -> Made
     ensures { λ r. ⌜ NoCall book reply r ⌝ }
@@ -46,7 +34,7 @@ fn no_call(book: Book, reply: Reply) -> Made
         reply: reply,
         verdict: Verdict::Passed,
         month: 0,
-        finding: no_finding(),
+        finding: book::no_finding(),
         taken: 0,
         book: book,
     }
@@ -71,7 +59,7 @@ fn make_post(book: Book, rest: &[u8]) -> Made
         reply: Reply::Posted,
         verdict: verdict,
         month: booked.month,
-        finding: no_finding(),
+        finding: book::no_finding(),
         taken: end,
         book: next,
     }
@@ -90,7 +78,7 @@ fn make_turn(book: Book, rest: &[u8]) -> Made
         reply: Reply::Turned,
         verdict: verdict,
         month: booked.month,
-        finding: no_finding(),
+        finding: book::no_finding(),
         taken: 3,
         book: next,
     }

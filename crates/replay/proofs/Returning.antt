@@ -5,8 +5,9 @@ use mathlib.Core.Path.{_≡_, refl, ap, sym, subst, _∙_}
 use Prim.Native.Nat.{ℕ, _+_, _*_, _≤_, _<_}
 use native.Mathlib.Omega.{arith}
 use lib.Dec.{T}
-use lib.ListN.{length, take, drop}
+use lib.ListN.{length, drop, length-append}
 use borrow.Author.Tests.{le-leb, lt-leb}
+use Rattle.method.specs.Bytes.{inBytes, twosComplement32, putAt}
 use Rattle.method.specs.Grounds.{Outcome, refused, done}
 use Rattle.method.proofs.Places.{number-small}
 use Rattle.ledger.specs.Answers as answer
@@ -18,6 +19,7 @@ use Rattle.grounds.specs.declared.Ground.{Ground}
 use Rattle.grounds.specs.declared.Verdict.{Verdict}
 use Rattle.grounds.specs.declared.Verdict.the-variants.{Passed, Refused}
 use Rattle.grounds.specs.Verdicts.{asGround, asOutcome, verdictNumber, verdictPlace}
+use Rattle.big_endian.proofs.Putting.{inBytes-length, put-first, put-behind}
 use Rattle.book.specs.declared.Finding.{Finding}
 use Rattle.book.specs.Views.{asFinding, asPaged}
 use Rattle.journal.specs.Journal.{Front, whole, cut, unknown}
@@ -53,14 +55,64 @@ module _ (lent : List ℕ) {o : Outcome answer.Finding} where
   look-refused told e n = rw (n, told, e)
 
   module _ (f : answer.Finding) (e : o ≡ done f) where
-    pub look-short : length lent < 12 → returned 15 lent ≡ lookReturned o lent
-    look-short h = rw (e, lt-leb 12 (length lent) h)
+    pub look-short : length lent < 28 → returned 15 lent ≡ lookReturned o lent
+    look-short h = rw (e, lt-leb 28 (length lent) h)
 
-    pub look-found : (bytes exit : List ℕ) → bytes ≡ foundBytes f → exit ≡ take (length bytes) bytes ++ drop (length bytes) lent →
-        12 ≤ length lent → returned 0 exit ≡ lookReturned o lent
-    look-found bytes exit b w h =
-        let x : exit ≡ foundBytes f ++ drop 12 lent = rw b at w in
-        rw (e, le-leb 12 (length lent) h, x)
+    pub look-found : (exit : List ℕ) → exit ≡ foundBytes f ++ drop 28 lent → 28 ≤ length lent → returned 0 exit ≡ lookReturned o lent
+    look-found exit w h = rw (e, le-leb 28 (length lent) h, w)
+
+-- ---- a reply of six numbers, put one behind the other
+
+module _ (f : answer.Finding) (lent : List ℕ) (room : 28 ≤ length lent) where
+  abbrev low : List ℕ
+  low = inBytes 8 (f .low)
+
+  abbrev high : List ℕ
+  high = inBytes 8 (f .high)
+
+  abbrev month : List ℕ
+  month = inBytes 2 (f .month)
+
+  abbrev age : List ℕ
+  age = inBytes 2 (f .age)
+
+  abbrev low-rate : List ℕ
+  low-rate = inBytes 4 (twosComplement32 (f .lowRate))
+
+  abbrev high-rate : List ℕ
+  high-rate = inBytes 4 (twosComplement32 (f .highRate))
+
+  -- how long the first so many are
+  long-low : length low ≡ 8
+  long-low = inBytes-length 8 (f .low)
+
+  long-high : length (low ++ high) ≡ 16
+  long-high = length-append low high ∙ (omega (arith, long-low, inBytes-length 8 (f .high)))
+
+  long-month : length (low ++ high ++ month) ≡ 18
+  long-month = length-append (low ++ high) month ∙ (omega (arith, long-high, inBytes-length 2 (f .month)))
+
+  long-age : length (low ++ high ++ month ++ age) ≡ 20
+  long-age = length-append (low ++ high ++ month) age ∙ (omega (arith, long-month, inBytes-length 2 (f .age)))
+
+  long-low-rate : length (low ++ high ++ month ++ age ++ low-rate) ≡ 24
+  long-low-rate = length-append (low ++ high ++ month ++ age) low-rate ∙ (omega (arith, long-age, inBytes-length 4 (twosComplement32 (f .lowRate))))
+
+  long-reply : length (foundBytes f) ≡ 28
+  long-reply =
+      length-append (low ++ high ++ month ++ age ++ low-rate) high-rate ∙ (omega (arith, long-low-rate, inBytes-length 4 (twosComplement32 (f .highRate))))
+
+  -- l and h are the rates' bits
+  pub found-put : {l h : ℕ} {o₁ o₂ o₃ o₄ o₅ o₆ : List ℕ} → l ≡ twosComplement32 (f .lowRate) → h ≡ twosComplement32 (f .highRate) →
+      o₁ ≡ putAt 0 low lent → o₂ ≡ putAt 8 high o₁ → o₃ ≡ putAt 16 month o₂ → o₄ ≡ putAt 18 age o₃ →
+      o₅ ≡ putAt 20 (inBytes 4 l) o₄ → o₆ ≡ putAt 24 (inBytes 4 h) o₅ → o₆ ≡ foundBytes f ++ drop 28 lent
+  found-put el eh e₁ e₂ e₃ e₄ e₅ e₆ =
+      let to-high = put-behind low high lent 8 long-low (omega arith) e₁ e₂ in
+      let to-month = put-behind (low ++ high) month lent 16 long-high (omega arith) to-high e₃ in
+      let to-age = put-behind (low ++ high ++ month) age lent 18 long-month (omega arith) to-month e₄ in
+      let to-low-rate = put-behind (low ++ high ++ month ++ age) low-rate lent 20 long-age (omega arith) to-age (rw el at e₅) in
+      let to-high-rate = put-behind (low ++ high ++ month ++ age ++ low-rate) high-rate lent 24 long-low-rate (omega arith) to-low-rate (rw eh at e₆) in
+      to-high-rate ∙ put-first (foundBytes f) lent ∙ ap (λ (n : ℕ). foundBytes f ++ drop n lent) long-reply
 
 -- ---- a page
 

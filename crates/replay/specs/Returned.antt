@@ -4,7 +4,7 @@ use mathlib.Core.List.{List, _++_}
 use Prim.Native.Nat.{ℕ, _+_, _*_}
 use lib.Dec.{leb}
 use lib.ListN.{length, drop}
-use Rattle.method.specs.Bytes.{bytes2, bytes4}
+use Rattle.method.specs.Bytes.{inBytes, twosComplement32}
 use Rattle.method.specs.Grounds.{bufferTooShort, numberOf, Outcome, refused, done}
 use Rattle.ledger.specs.Answers.{Finding, answerNumber, answerPlace}
 use Rattle.ledger.specs.Book.{Book, Paged}
@@ -27,15 +27,18 @@ returned n l = record { answer = n; buffer = l }
 abbrev pub packed : {A : Type 0} → Outcome A → ℕ
 packed o = answerNumber o + 256 * answerPlace o
 
--- low, high, month and age
+-- low (8), high (8), month (2), age (2), low rate (4), high rate (4)
 abbrev pub foundBytes : Finding → List ℕ
-foundBytes f = bytes4 (f .low) ++ bytes4 (f .high) ++ bytes2 (f .month) ++ bytes2 (f .age)
+foundBytes f =
+    inBytes 8 (f .low) ++ inBytes 8 (f .high) ++ inBytes 2 (f .month) ++ inBytes 2 (f .age)
+    ++ inBytes 4 (twosComplement32 (f .lowRate))
+    ++ inBytes 4 (twosComplement32 (f .highRate))
 
--- the look-up's own grounds before a buffer that is too short; bytes past the twelfth are kept
+-- the look-up's own grounds before a buffer that is too short; bytes past the reply are kept
 abbrev pub lookReturned : Outcome Finding → List ℕ → Returned
 lookReturned (refused g) l = returned (packed {A = Finding} (refused g)) l
 lookReturned (done f) l =
-    cond (leb 12 (length l)) (returned 0 (foundBytes f ++ drop 12 l)) (returned (numberOf bufferTooShort) l)
+    cond (leb 28 (length l)) (returned 0 (foundBytes f ++ drop 28 l)) (returned (numberOf bufferTooShort) l)
 
 abbrev pub pageReturned : Paged → Returned
 pageReturned p = returned (packed (p .answer)) (p .buffer)

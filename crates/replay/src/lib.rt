@@ -1,12 +1,15 @@
 // The book after the calls of a journal, made with an age limit, and what is then answered: for programs in Rattle, and in C by include/tuyqorem.h.
-use big_endian::byte;
+use big_endian::put;
+use big_endian::twos_complement;
 use book::Book;
 use book::Finding;
 use book::Looked;
 use grounds::Verdict;
 use journal::Reply;
 ghost use mathlib.Core.Path.{_≡_};
+ghost use mathlib.Core.List.{_++_};
 ghost use Prim.Native.Nat.{_+_, _*_, _≤_};
+ghost use lib.ListN.{length, drop};
 ghost use Rattle.ledger.specs.Book.{lookUp, page};
 ghost use Rattle.ledger.specs.Calls.{lookAt, pageInto};
 ghost use Rattle.ledger.specs.Count.{count};
@@ -56,23 +59,17 @@ pub fn page_after(age_limit: u64, calls: &[u8], out: &mut [u8]) -> Verdict
 
 // ---- the same for programs in C
 
-fn found_bytes(f: Finding) -> [u8; 12]
-    ensures { λ r. ⌜ r ≡ foundBytes (asFinding f) ⌝ }
+// A look-up's reply: each number straight to its own bytes.
+fn put_found(f: Finding, out: &mut [u8])
+    requires { ⌜ 28 ≤ length (now out) ⌝ }
+    ensures { λ _. ⌜ now (out .exit) ≡ foundBytes (asFinding f) ++ drop 28 (now (out .entry)) ⌝ }
 {
-    [
-        byte(f.low / 16_777_216),
-        byte(f.low / 65_536),
-        byte(f.low / 256),
-        byte(f.low),
-        byte(f.high / 16_777_216),
-        byte(f.high / 65_536),
-        byte(f.high / 256),
-        byte(f.high),
-        byte(f.month / 256),
-        byte(f.month),
-        byte(f.age / 256),
-        byte(f.age),
-    ]
+    put(f.low, 8, 0, out);
+    put(f.high, 8, 8, out);
+    put(f.month, 2, 16, out);
+    put(f.age, 2, 18, out);
+    put(twos_complement(f.low_rate), 4, 20, out);
+    put(twos_complement(f.high_rate), 4, 24, out);
 }
 
 // A place is at most 150.
@@ -99,12 +96,11 @@ pub extern "C" fn tuyqorem_look_after(
     let Verdict::Passed = verdict else {
         return packed(verdict);
     };
-    if out.len() < 12 {
+    if out.len() < 28 {
         return 15;
     }
     let finding = looked.finding;
-    let found = found_bytes(finding);
-    bytes::copy(&found, out);
+    put_found(finding, out);
     0
 }
 

@@ -1,4 +1,16 @@
--- The entry at the year, with the month and the age.
+-- The entry at the year with its rates, the month and the age; or the 17 of the rates.
+use mathlib.Core.Path.{sym, ap, ap₂, _∙_}
+use Prim.Native.Nat.{ℕ}
+use mir.Syntax.{w64}
+use mir.ValLaws.{toZ-ofZ}
+use Rattle.method.specs.Units.{SignedPair, signedPair}
+use Rattle.method.specs.Grounds.{Outcome, done, _>>=_}
+use Rattle.ledger.specs.Answers.{Finding, finding}
+use Rattle.ledger.specs.Book.{age, bandAt}
+use Rattle.grounds.specs.Verdicts.{resultOr}
+use Rattle.grounds.proofs.Chain.{at-verdict, refused-alone}
+use Rattle.curve.specs.Curves.{asCurve}
+use Rattle.book.specs.Views.{noFinding}
 use borrow.Author.Needs.{needs}
 use Rattle.book.proofs.found.Statement.{statement}
 use Rattle.book.proofs.found.Tie as tie
@@ -6,25 +18,68 @@ use Rattle.book.proofs.found.Tie as tie
 sub-i : tie.Need-sub-i
 sub-i c = search needs
 
-mul-t7 : tie.Need-mul-t7
-mul-t7 c = search needs
+mul-low : tie.Need-mul-low
+mul-low c = search needs
 
-element-copy-out-t6 : tie.Need-element-copy-out-t6
-element-copy-out-t6 c = search needs
+element-copy-out-low : tie.Need-element-copy-out-low
+element-copy-out-low c = search needs
 
-mul-t10 : tie.Need-mul-t10
-mul-t10 c = search needs
+mul-high : tie.Need-mul-high
+mul-high c = search needs
 
-element-copy-out-t13 : tie.Need-element-copy-out-t13
-element-copy-out-t13 c = search needs
+element-copy-out-high : tie.Need-element-copy-out-high
+element-copy-out-high c = search needs
+
+zero-rates-requires : tie.Need-zero-rates-requires
+zero-rates-requires c κs = search needs
+
+enum-told : tie.Need-enum-told
+enum-told c = search needs
+
+enum-told-2 : tie.Need-enum-told-2
+enum-told-2 c = search needs
+
+not-found-requires : tie.Need-not-found-requires
+not-found-requires c κs = search needs
+
+returns : tie.Need-returns
+returns c =
+    let at-rates = c .before .before .before in
+    let told = c .before .enum-told2 .given .1 in
+    let unrated = at-verdict _ told (at-rates .zero-rates .ensures .0) in
+    refused-alone (c .not-found .ensures .0) told (c .not-found .ensures .1) (rw unrated)
 
 age-requires : tie.Need-age-requires
 age-requires c κs = search needs
 
-returns : tie.Need-returns
-returns c = rw (c .age .ensures)
+returns-2 : tie.Need-returns-2
+returns-2 c =
+    let at-age = c .before in
+    let at-told = at-age .before .before in
+    let at-rates = at-told .before .before in
+    let a = at-rates .before .before .before .before .args in
+    let curve = asCurve (a .curve) in
+    let with-rates : SignedPair → ℕ → Finding = λ r months. finding (bandAt curve (a .year)) r (a .curve .month) months in
+    let rated = at-verdict _ (at-told .enum-told .given .1) (at-rates .zero-rates .ensures .0) in
+    let found = ap (λ (o : Outcome SignedPair). o >>= (λ r. done (with-rates r (age (a .told) curve)))) rated in
+    let fits = c .struct-told .given in
+    let read = ap₂ signedPair (toZ-ofZ w64 _ (record { sfits = fits .0 .1 })) (toZ-ofZ w64 _ (record { sfits = fits .1 .0 .1 })) in
+    let same = ap₂ with-rates read (at-age .age .ensures) in
+    (ap done same ∙ sym found, same ∙ ap (resultOr noFinding) (sym found))
 
 pub found-spec : {M : Type 1} → statement M
 found-spec =
     tie.close
-    (tie.spec sub-i mul-t7 element-copy-out-t6 mul-t10 element-copy-out-t13 age-requires returns)
+    (tie.spec
+    sub-i
+    mul-low
+    element-copy-out-low
+    mul-high
+    element-copy-out-high
+    zero-rates-requires
+    enum-told
+    enum-told-2
+    not-found-requires
+    returns
+    age-requires
+    returns-2)

@@ -3,11 +3,11 @@ use borrow.Author.Needs.{needs}
 use Rattle.book.proofs.fresh.Statement.{statement}
 use Rattle.book.proofs.fresh.Tie as tie
 
-cut-requires : tie.Need-cut-requires
-cut-requires c κs = search needs
+smaller-requires : tie.Need-smaller-requires
+smaller-requires c κs = search needs
 
 returns : tie.Need-returns
-returns c = rw (c .cut .ensures)
+returns c = rw (c .smaller .ensures)
 
 pub fresh-spec : {M : Type 1} → statement M
-fresh-spec = tie.close (tie.spec cut-requires returns)
+fresh-spec = tie.close (tie.spec smaller-requires returns)

@@ -1,7 +1,6 @@
 -- 13 on either side, then 14 or 16, and else what the curve has.
 use mathlib.Core.Path.{refl, sym, ap, _∙_}
 use native.Mathlib.Omega.{arith}
-use Rattle.method.specs.Grounds.{done}
 use Rattle.ledger.proofs.Asked.{look-outside, look-open, look-closed}
 use Rattle.grounds.specs.Verdicts.{resultOr}
 use Rattle.grounds.proofs.Chain.{refused-alone}
@@ -63,7 +62,7 @@ returns-4 c =
     let opened = asked (a .has) (a .curve) (a .told) (a .age-limit) (at-opens .opens .ensures) (c .before .enum-told .given .1) in
     let found = c .found .ensures in
     let shown = look-open _ _ _ _ (asCurve (a .curve)) opened (at-year .before .if1 .left) (at-year .if2 .left) in
-    (ap done found ∙ sym shown, found ∙ ap (resultOr noFinding) (sym shown))
+    (found .0 ∙ sym shown, found .1 ∙ ap (resultOr noFinding) (sym shown))
 
 pub look-in-spec : {M : Type 1} → statement M
 look-in-spec =

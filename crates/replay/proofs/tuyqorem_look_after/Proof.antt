@@ -1,4 +1,4 @@
--- The answer as one number; a finding in twelve bytes where there is room.
+-- The answer as one number; a finding in 28 bytes where there is room.
 use denote.Ref.{now}
 use Rattle.ledger.specs.Calls.{lookAt, asks, run}
 use Rattle.ledger.proofs.Places.{answer-place}
@@ -43,31 +43,21 @@ returns-2 c =
     let found = at-verdict _ (c .before .enum-told .given .1) (at-look .look-after .ensures .0) in
     (look-short (now (a .out)) _ found (c .if1 .taken), demand-3 (a .age-limit) (decode (now (a .calls))))
 
-found-bytes-requires : tie.Need-found-bytes-requires
-found-bytes-requires c κs = search needs
-
-slice-aggregate-copy : tie.Need-slice-aggregate-copy
-slice-aggregate-copy c = search needs
-
-copy-requires : tie.Need-copy-requires
-copy-requires c κs = search needs
+put-found-requires : tie.Need-put-found-requires
+put-found-requires c κs = search needs
 
 same-length : tie.Need-same-length
 same-length c = search needs
 
 returns-3 : tie.Need-returns-3
 returns-3 c =
-    let at-copy = c .before .before in
-    let at-bytes = at-copy .before .before .before in
-    let at-room = at-bytes .before .before in
+    let at-put = c .before .before in
+    let at-room = at-put .before .before .before in
     let at-told = at-room .before in
     let at-look = at-told .before .before in
     let a = at-look .before .before .before .args in
     let found = at-verdict _ (at-told .enum-told .given .1) (at-look .look-after .ensures .0) in
-    let bytes = at-bytes .found-bytes in (
-      look-found (now (a .out)) _ found (bytes .result) _ (bytes .ensures) (at-copy .copy .ensures .1) (at-room .if1 .left),
-      demand-3 (a .age-limit) (decode (now (a .calls))),
-    )
+    (look-found (now (a .out)) _ found _ (at-put .put-found .ensures) (at-room .if1 .left), demand-3 (a .age-limit) (decode (now (a .calls))))
 
 pub tuyqorem-look-after-spec : {M : Type 1} → statement M
 tuyqorem-look-after-spec =
@@ -79,8 +69,6 @@ tuyqorem-look-after-spec =
     packed-requires
     returns
     returns-2
-    found-bytes-requires
-    slice-aggregate-copy
-    copy-requires
+    put-found-requires
     same-length
     returns-3)
