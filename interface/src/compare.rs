@@ -13,13 +13,16 @@ use reference::refusal::Refusal;
 use crate::{answer_after, look_after, page_after};
 
 /// Bytes in the reply to a look-up.
-pub const LOOK_UP_LENGTH: usize = 12;
+pub const LOOK_UP_LENGTH: usize = 28;
 
 /// What a lent buffer holds, so that each byte written or left is seen.
 const LENT: u8 = 7;
 
 /// The ground of a curve whose age is above the limit.
 const TOO_OLD: u64 = 16;
+
+/// The ground of a year that has no high rate.
+const NO_HIGH_RATE: u64 = 17;
 
 /// A question asked after a journal; lengths are those of the lent buffer.
 pub enum Question {
@@ -87,6 +90,20 @@ impl Kind {
         Kind::ShortPage,
         Kind::Answer,
     ];
+
+    /// Whether questions of this kind can ask for rates: a page has none.
+    fn asks_for_rates(self) -> bool {
+        !matches!(self, Kind::Page | Kind::ShortPage)
+    }
+
+    /// The grounds that questions of this kind must meet for them to mean something.
+    fn due(self) -> &'static [u64] {
+        if self.asks_for_rates() {
+            &[TOO_OLD, NO_HIGH_RATE]
+        } else {
+            &[TOO_OLD]
+        }
+    }
 }
 
 impl fmt::Display for Kind {
@@ -186,16 +203,25 @@ fn code(answer: Result<(), Refusal>) -> u64 {
 /// The reply to a look-up that the book answers; a buffer too short for it is tried last.
 fn write_look_up(found: &Found, out: &mut [u8]) -> Result<(), Refusal> {
     let reply = out.get_mut(..LOOK_UP_LENGTH).ok_or(Refusal::plain(15))?;
-    reply[..4].copy_from_slice(&four_bytes(found.factor.low));
-    reply[4..8].copy_from_slice(&four_bytes(found.factor.high));
-    reply[8..10].copy_from_slice(&found.month.to_be_bytes());
-    reply[10..].copy_from_slice(&found.age.to_be_bytes());
+    reply.copy_from_slice(&look_up_reply(found));
     Ok(())
 }
 
-/// Ground 8 keeps every factor at or below 2 U, which fits in 32 bits.
-fn four_bytes(value: i128) -> [u8; 4] {
-    u32::try_from(value)
+/// Low and high, 8 bytes each, month and age, 2 bytes each, low rate and high rate, 4 bytes
+/// each in two's complement.
+pub fn look_up_reply(found: &Found) -> [u8; LOOK_UP_LENGTH] {
+    let mut reply = [0; LOOK_UP_LENGTH];
+    reply[..8].copy_from_slice(&eight_bytes(found.factor.low));
+    reply[8..16].copy_from_slice(&eight_bytes(found.factor.high));
+    reply[16..18].copy_from_slice(&found.month.to_be_bytes());
+    reply[18..20].copy_from_slice(&found.age.to_be_bytes());
+    reply[20..24].copy_from_slice(&found.rates.low.to_be_bytes());
+    reply[24..].copy_from_slice(&found.rates.high.to_be_bytes());
+    reply
+}
+
+fn eight_bytes(value: i128) -> [u8; 8] {
+    u64::try_from(value)
         .expect("a factor from 0 to 2 U")
         .to_be_bytes()
 }
@@ -223,12 +249,15 @@ impl Met {
         Ok(answer)
     }
 
-    /// Says what was not met and must be for the questions to mean something: ground 16 by
-    /// each of these kinds, and curves at the limit and a month past it.
+    /// Says what was not met and must be for the questions to mean something: by each of these
+    /// kinds ground 16 and, unless it is of pages, 17; and curves at the limit and a month past
+    /// it.
     pub fn check(&self, kinds: &[Kind]) -> Result<(), String> {
-        let missed = |&&kind: &&Kind| !self.numbers.contains_key(&(kind, TOO_OLD));
-        if let Some(kind) = kinds.iter().find(missed) {
-            return Err(format!("ground {TOO_OLD} was not met by {kind}"));
+        for &kind in kinds {
+            let met = |number: &u64| self.numbers.contains_key(&(kind, *number));
+            if let Some(number) = kind.due().iter().find(|number| !met(number)) {
+                return Err(format!("ground {number} was not met by {kind}"));
+            }
         }
         if self.shown_at_the_limit == 0 || self.a_month_past_it == 0 {
             return Err("no curve was met at the limit, or none a month past it".to_string());

@@ -30,7 +30,7 @@ fn every_answer() -> Vec<(u8, u64)> {
     let of = |kind, numbers: &[u64]| numbers.iter().map(|&n| (kind, n)).collect::<Vec<_>>();
     [
         of(0, &[255]),
-        of(0x4C, &[0, 13, 14, 16, 255]),
+        of(0x4C, &[0, 13, 14, 16, 17, 255]),
         of(0x4D, &[0, 11, 12, 255]),
         of(0x50, &[0, 1, 2, 3, 4, 5, 6, 7, 8, 9, 10, 255]),
     ]

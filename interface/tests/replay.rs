@@ -14,7 +14,7 @@ use reference::sheet::Sheet;
 use reference::streams::{low_rates, sheet, sheet_bytes, worked, Random};
 
 const BUFFERS: [usize; 5] = [0, 1_504, 1_505, 1_506, 2_000];
-const LOOK_UP_BUFFERS: [usize; 4] = [0, 11, 12, 13];
+const LOOK_UP_BUFFERS: [usize; 9] = [0, 1, 12, 20, 26, 27, 28, 29, 60];
 
 /// The page of a sheet that is accepted, which is the same under every age limit.
 fn page_of(sheet: &Sheet) -> Vec<u8> {
@@ -31,11 +31,12 @@ fn page_of(sheet: &Sheet) -> Vec<u8> {
     shown
 }
 
-/// Low and high of a year of a sheet that is accepted, the same under every age limit.
-fn band_of(sheet: &Sheet, year: u64) -> (u32, u32) {
+/// The reply to the look-up of a year of a sheet that is accepted, the same under every age
+/// limit.
+fn reply_of(sheet: &Sheet, year: u64) -> [u8; 28] {
     let journal = post(&sheet_bytes(sheet));
     let reply = |age_limit| {
-        let mut out = [0; 12];
+        let mut out = [0; 28];
         assert_eq!(look_after(age_limit, &journal, year, &mut out), 0);
         out
     };
@@ -43,11 +44,21 @@ fn band_of(sheet: &Sheet, year: u64) -> (u32, u32) {
     for age_limit in age_limits(&mut Random::new(37)) {
         assert_eq!(reply(age_limit), shown, "age limit {age_limit}");
     }
-    let [a, b, c, d, e, f, g, h, ..] = shown;
-    (
-        u32::from_be_bytes([a, b, c, d]),
-        u32::from_be_bytes([e, f, g, h]),
-    )
+    shown
+}
+
+/// Low and high of a year of a sheet that is accepted.
+fn band_of(sheet: &Sheet, year: u64) -> (u64, u64) {
+    let reply = reply_of(sheet, year);
+    let number = |at: usize| u64::from_be_bytes(reply[at..at + 8].try_into().unwrap());
+    (number(0), number(8))
+}
+
+/// Low rate and high rate of a year of a sheet that is accepted.
+fn rates_of(sheet: &Sheet, year: u64) -> (i32, i32) {
+    let reply = reply_of(sheet, year);
+    let number = |at: usize| i32::from_be_bytes(reply[at..at + 4].try_into().unwrap());
+    (number(20), number(24))
 }
 
 #[test]
@@ -74,8 +85,9 @@ fn look_ups_agree() {
     for number in 0..journals() {
         let journal = journal(&mut random);
         for case in cases(&mut random, &journal) {
-            for year in [0, 1, 20, 21, 150, 151, random.number()] {
-                let length = LOOK_UP_BUFFERS[random.below(4) as usize];
+            let early = random.between(9, 20) as u64;
+            for year in [0, 1, early, 20, 21, 150, 151, random.number()] {
+                let length = LOOK_UP_BUFFERS[random.below(9) as usize];
                 let answer = met.ask(&case, &Question::LookUp { year, length });
                 assert!(answer.is_ok(), "journal {number}: {answer:?}");
             }
@@ -121,7 +133,7 @@ fn grounds_come_in_their_order() {
     for length in LOOK_UP_BUFFERS {
         assert_eq!(looked(3, &old, 151, length), 13);
         assert_eq!(looked(3, &old, 150, length), 16);
-        let short = if length < 12 { 15 } else { 0 };
+        let short = if length < 28 { 15 } else { 0 };
         assert_eq!(looked(3, &shown, 150, length), short);
     }
     for length in BUFFERS {
@@ -149,7 +161,7 @@ fn a_curve_is_shown_up_to_the_limit() {
         for age in [0, 1, 2, 254, 255, 256, 257, 2_397, 2_398, 2_399] {
             let expected = if age <= greatest { 0 } else { 16 };
             let journal = aged(age);
-            assert_eq!(looked(age_limit, &journal, 1, 12), expected);
+            assert_eq!(looked(age_limit, &journal, 1, 28), expected);
             assert_eq!(paged(age_limit, &journal, 1_505), expected);
         }
     }
@@ -158,7 +170,9 @@ fn a_curve_is_shown_up_to_the_limit() {
 #[test]
 fn short_buffers_are_refused() {
     for age_limit in age_limits(&mut Random::new(41)) {
-        assert_eq!(looked(age_limit, &aged(0), 1, 11), 15);
+        for length in 0..28 {
+            assert_eq!(looked(age_limit, &aged(0), 1, length), 15);
+        }
         assert_eq!(paged(age_limit, &aged(0), 1_504), 15);
         assert_eq!(paged(age_limit, &[], 2_000), 14);
     }
@@ -193,6 +207,9 @@ fn november_2020() {
     assert_eq!(band_of(&phased_in, 150), (640_244_924, 640_246_623));
     let plain = low_rates(0, None);
     assert_eq!(band_of(&plain, 150), (647_775_926, 647_777_646));
+    // By logarithms: 996,928,7xx ^ (-1/21) is 1.0001465, 640,245,xxx ^ (-1/150) is 1.0029771.
+    assert_eq!(rates_of(&phased_in, 21), (14, 15));
+    assert_eq!(rates_of(&phased_in, 150), (297, 298));
 }
 
 #[test]

@@ -2,6 +2,7 @@
 
 use crate::curve::{Curve, YEARS};
 use crate::enclosure::Enclosure;
+use crate::rates::ZeroRates;
 use crate::refusal::Refusal;
 use crate::sheet::{Sheet, LAST_MONTH};
 
@@ -37,6 +38,8 @@ pub struct Book {
 #[derive(Clone, Copy, Debug, PartialEq, Eq)]
 pub struct Found {
     pub factor: Enclosure,
+    /// Annual zero rates of the year.
+    pub rates: ZeroRates,
     /// Month of the sheet behind the curve.
     pub month: u16,
     /// Told month less sheet month.
@@ -100,15 +103,18 @@ impl Book {
         Ok(self.told_month)
     }
 
-    /// The factor of `year` with its dating, or the first of grounds 13, 14 and 16.
+    /// The factor of `year` with its rates and its dating, or the first of grounds 13, 14, 16
+    /// and 17.
     pub fn look_up(&self, year: u32) -> Result<Found, Refusal> {
         let year = usize::try_from(year)
             .ok()
             .filter(|year| (1..=YEARS).contains(year))
             .ok_or(Refusal::plain(13))?;
         let (standing, age) = self.shown()?;
+        let factor = standing.curve.factor(year);
         Ok(Found {
-            factor: standing.curve.factor(year),
+            factor,
+            rates: ZeroRates::of(factor, year).ok_or(Refusal::plain(17))?,
             month: standing.month,
             age,
         })
@@ -116,7 +122,7 @@ impl Book {
 
     /// Writes the page into the first 1,505 bytes of `buffer` and keeps the others,
     /// or refuses on the first of grounds 14, 16 and 15, in this order, and leaves the
-    /// buffer unchanged.
+    /// buffer unchanged. It tells no rates, so that a year without them keeps its pair.
     pub fn page(&self, buffer: &mut [u8]) -> Result<(), Refusal> {
         let (standing, age) = self.shown()?;
         let page = buffer.get_mut(..PAGE_LENGTH).ok_or(Refusal::plain(15))?;
@@ -128,6 +134,11 @@ impl Book {
             write_year(record, i + 1, standing.curve.factor(i + 1));
         }
         Ok(())
+    }
+
+    /// The age of the curve that the book holds, if it holds one, shown or too old.
+    pub fn curve_age(&self) -> Option<u16> {
+        self.standing.as_ref().map(|standing| self.age(standing))
     }
 
     /// The standing curve with its age, if it is young enough to be shown; else ground 14

@@ -19,6 +19,11 @@ pub fn records() -> Vec<Answered> {
 /// The records that meet every ground a desk's record can meet: all but 16. No curve in them
 /// gets older than two months, so `AGE_LIMIT` does not show.
 pub fn desk_records() -> Vec<Answered> {
+    [base_records(), rate_records()].concat()
+}
+
+/// The records that meet grounds 1 to 14. They leave month 2 told and the curve of month 1.
+pub fn base_records() -> Vec<Answered> {
     let posted = |sheet: Sheet| post(&sheet_bytes(&sheet));
     let followed_by = |bytes: &[u8]| post(&[&sheet_bytes(&zero()), bytes].concat());
     vec![
@@ -53,6 +58,52 @@ pub fn desk_records() -> Vec<Answered> {
     ]
 }
 
+/// What follows `base_records` and leaves the book as they do: years with rates and, next to
+/// them, years without a high rate. Growth at 100,000 doubles each year without a rounding, so
+/// that 17 says: the low times 2^year is below U.
+fn rate_records() -> Vec<Answered> {
+    let posted = |sheet: Sheet| post(&sheet_bytes(&sheet));
+    vec![
+        (posted(steep(0)), 0, 0),
+        // Year 9 is U. Year 10 is U / 111,111, so its low is 9,000, and 1,024 times that is
+        // far below U. From there each year is the one before / 1.11111.
+        (look_up(1), 0, 0),
+        (look_up(9), 0, 0),
+        (look_up(10), 17, 0),
+        (look_up(0), 13, 0),
+        (look_up(151), 13, 0),
+        // About 4,304 × 2^17 = 564 million and 3,874 × 2^18 = 1,015 million.
+        (look_up(17), 17, 0),
+        (look_up(18), 0, 0),
+        (look_up(20), 0, 0),
+        // From about 3,138 in year 20 not much is lost where forwards go to 0.
+        (look_up(150), 0, 0),
+        // Where they stay above ln 1.1, year 150 is below 3,139 / 1.1^130: its low is 0.
+        (posted(steep(10_000)), 0, 0),
+        (look_up(10), 17, 0),
+        (look_up(20), 0, 0),
+        (look_up(60), 0, 0),
+        (look_up(150), 17, 0),
+        // 976,562 × 1,024 = 999,999,488.
+        (posted(just_too_steep()), 0, 0),
+        (look_up(10), 17, 0),
+        (look_up(9), 0, 0),
+        // 976,563 × 1,024 = 1,000,000,512.
+        (posted(just_not_too_steep()), 0, 0),
+        (look_up(10), 0, 0),
+        (look_up(9), 0, 0),
+        // Other calls go on as ever, and another curve has rates again.
+        (turn(1), 12, 0),
+        (posted(limited(2_209)), 6, 0),
+        (posted(steep(10_000)), 0, 0),
+        (turn(2), 0, 0),
+        (look_up(150), 17, 0),
+        (posted(of_month(1)), 0, 0),
+        (look_up(10), 0, 0),
+        (look_up(150), 0, 0),
+    ]
+}
+
 /// What follows `desk_records`, which leave month 2 told and the curve of month 1: curves at
 /// the limit and one month past it, and what closes and opens the book.
 fn aging_records() -> Vec<Answered> {
@@ -77,6 +128,18 @@ fn aging_records() -> Vec<Answered> {
         (look_up(150), 16, 0),
         (posted(of_month(1)), 6, 0),
         (posted(of_month(6)), 0, 0),
+        (look_up(150), 0, 0),
+        // Age comes before rates: a year without a high rate is 17 only while it is shown.
+        (posted(steep_of_month(6)), 0, 0),
+        (look_up(10), 17, 0),
+        (turn(9), 0, 0),
+        (look_up(10), 17, 0),
+        (look_up(9), 0, 0),
+        (turn(10), 0, 0),
+        (look_up(10), 16, 0),
+        (look_up(9), 16, 0),
+        (look_up(151), 13, 0),
+        (posted(of_month(10)), 0, 0),
         (look_up(150), 0, 0),
     ]
 }
@@ -127,6 +190,37 @@ fn fall() -> Sheet {
     let mut sheet = with_rate(zero(), 10, 12_000);
     sheet.rates[..9].fill(-2_000);
     sheet
+}
+
+/// The sheet of month 1 that has 11,111 from maturity 10 on. Year 10 by par is
+/// (100,000 × U - 11,111 × 9 × U) / 111,111.
+fn steep(ufr: u16) -> Sheet {
+    let sheet = with_rates_from(of_month(1), 10, 11_111);
+    Sheet { ufr, ..sheet }
+}
+
+fn steep_of_month(month: u16) -> Sheet {
+    Sheet { month, ..steep(0) }
+}
+
+/// Years 1 to 7 are U, year 8 has the low 1,001,040,135, year 9 the low 867,154,445 and year
+/// 10 the low 976,562, each with a high one above.
+fn just_too_steep() -> Sheet {
+    let sheet = with_rate(with_rate(of_month(1), 8, -13), 9, 1_498);
+    with_rates_from(sheet, 10, 11_264)
+}
+
+/// Years 1 to 7 are U, year 8 is 999,840,003 to 999,840,004, year 9 is 903,135,625 to
+/// 903,135,626, year 10 is 976,563 to 976,565.
+fn just_not_too_steep() -> Sheet {
+    let sheet = with_rate(with_rate(of_month(1), 8, 2), 9, 1_088);
+    with_rates_from(sheet, 10, 11_220)
+}
+
+/// The sheet with this rate for `maturity` and all later ones.
+fn with_rates_from(sheet: Sheet, maturity: u8, rate: i16) -> Sheet {
+    let later = MATURITIES.into_iter().filter(|&m| m >= maturity);
+    later.fold(sheet, |sheet, maturity| with_rate(sheet, maturity, rate))
 }
 
 fn with_rate(mut sheet: Sheet, maturity: u8, rate: i16) -> Sheet {

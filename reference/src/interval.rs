@@ -15,7 +15,12 @@ pub struct Interval {
 impl Interval {
     /// The whole number `value`, exactly.
     pub fn integer(value: i128, bits: usize) -> Self {
-        let scaled = BigInt::from(value).shift_left(bits);
+        Interval::whole(&BigInt::from(value), bits)
+    }
+
+    /// The whole number `value` of any size, exactly.
+    pub fn whole(value: &BigInt, bits: usize) -> Self {
+        let scaled = value.shift_left(bits);
         Interval {
             low: scaled.clone(),
             high: scaled,
@@ -82,16 +87,21 @@ impl Interval {
 
     /// The product with a whole number, which needs no rounding.
     pub fn times(&self, factor: i128) -> Self {
-        let positive = BigInt::from(factor.abs());
-        let product = Interval {
-            low: &self.low * &positive,
-            high: &self.high * &positive,
-            bits: self.bits,
-        };
-        if factor < 0 {
-            product.neg()
+        self.times_whole(&BigInt::from(factor))
+    }
+
+    /// The product with a whole number of any size, which needs no rounding either.
+    pub fn times_whole(&self, factor: &BigInt) -> Self {
+        // A factor below 0 turns the ends about.
+        let (low, high) = if factor.is_negative() {
+            (&self.high, &self.low)
         } else {
-            product
+            (&self.low, &self.high)
+        };
+        Interval {
+            low: low * factor,
+            high: high * factor,
+            bits: self.bits,
         }
     }
 

@@ -1,6 +1,6 @@
 //! Second implementation of the dated euro curve book: sheet reading, bootstrap
-//! from par rates, extrapolation, the book itself, and the true curve of order n
-//! against which the enclosures are checked.
+//! from par rates, extrapolation, zero rates, the book itself, and the true curve of
+//! order n against which the enclosures and the rates are checked.
 
 pub mod arguments;
 pub mod bigint;
@@ -15,6 +15,7 @@ pub mod extrapolation;
 pub mod interval;
 pub mod journal;
 pub mod questions;
+pub mod rates;
 pub mod refusal;
 pub mod series;
 pub mod sheet;

@@ -3,7 +3,7 @@
 
 use crate::book::{Book, LARGEST_AGE_LIMIT};
 use crate::journal::{look_up, post, turn};
-use crate::streams::{sheet, sheet_bytes, typed_sheet, Random};
+use crate::streams::{sheet, sheet_bytes, steep_sheet, typed_sheet, Random};
 
 /// The last month that can be told.
 const LAST_MONTH: u16 = 2_399;
@@ -15,7 +15,8 @@ const MONTHS: u64 = 2;
 /// Small age limits are below this one: most ages that journals reach are.
 const SMALL_LIMITS: u64 = 6;
 
-/// A journal of up to 11 records: whole, damaged, cut or empty, with sheets of any length.
+/// A journal of up to 11 records: whole, damaged, cut or empty, with sheets of any length. One
+/// in 8 ends with one more record, a steep sheet, on which look-ups meet ground 17.
 pub fn journal(random: &mut Random) -> Vec<u8> {
     let mut journal = Vec::new();
     let mut told = 0;
@@ -32,6 +33,9 @@ pub fn journal(random: &mut Random) -> Vec<u8> {
                 journal.extend(posted(random, told.saturating_sub(age)));
             }
         }
+    }
+    if random.one_in(8) {
+        journal.extend(post(&sheet_bytes(&steep_sheet(random, told))));
     }
     damage(random, &mut journal);
     journal
@@ -80,7 +84,9 @@ fn record(random: &mut Random) -> Vec<u8> {
         0 => turn(random.below(65_536) as u16),
         1 => turn(random.below(MONTHS) as u16),
         2 => look_up(random.below(256) as u8),
-        3..=5 => look_up(1 + random.below(150) as u8),
+        3 | 4 => look_up(1 + random.below(150) as u8),
+        // Where steep curves have no high rate.
+        5 => look_up(random.between(9, 16) as u8),
         6 => any_bytes(random),
         7 => post(&any_bytes(random)),
         8 => post(&damaged_sheet(random)),
@@ -145,6 +151,5 @@ pub fn limits_around(age: u64) -> impl Iterator<Item = u64> {
 
 /// The age of the curve that the book holds, if it holds one, shown or too old.
 pub fn curve_age(book: &Book) -> Option<u64> {
-    let found = book.with_age_limit(LARGEST_AGE_LIMIT).look_up(1);
-    found.ok().map(|found| u64::from(found.age))
+    book.curve_age().map(u64::from)
 }

@@ -33,7 +33,7 @@ impl Refusal {
 }
 
 /// The grounds in words, that of number n at index n - 1.
-const REASONS: [&str; 16] = [
+const REASONS: [&str; 17] = [
     "the sheet's length is neither 109 nor 112",
     "a record's kind or maturity is not the one due",
     "a number is outside its range",
@@ -50,6 +50,7 @@ const REASONS: [&str; 16] = [
     "the book has no curve",
     "the buffer has fewer than 1,505 bytes",
     "the curve's age is above the book's limit",
+    "no high rate up to 100,000 exists",
 ];
 
 impl fmt::Display for Refusal {

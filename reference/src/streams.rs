@@ -1,12 +1,17 @@
 //! Seeded sheets and record streams: ordinary, extreme and damaged ones, for
 //! comparing two desks on the same input.
 
+use crate::bootstrap::par_factor;
 use crate::convergence::{TEN_PERCENT, X_OUTSIDE_PHASE_IN};
 use crate::curve::{Curve, YEARS};
+use crate::enclosure::{Enclosure, RATE_UNIT, U};
 use crate::journal::{look_up, post, turn};
 use crate::sheet::{Sheet, MATURITIES, VOLUME_MATURITIES};
 
 const LARGEST_LIMIT: u32 = 100_000;
+
+/// The highest rate that a sheet may quote.
+const HIGHEST_QUOTE: i64 = 12_000;
 
 /// Bytes of a sheet without the phase-in's record.
 const REQUIRED_LENGTH: usize = 109;
@@ -38,7 +43,8 @@ impl Random {
         low + self.below((high - low + 1) as u64) as i64
     }
 
-    fn one_in(&mut self, count: u64) -> bool {
+    /// True once in `count` times.
+    pub fn one_in(&mut self, count: u64) -> bool {
         self.below(count) == 0
     }
 }
@@ -183,6 +189,61 @@ pub fn worked(sheet: &Sheet) -> Option<Curve> {
     traded.then(|| Curve::of(sheet).ok()).flatten()
 }
 
+/// A sheet whose ninth or tenth factor is next to 0: what ground 17 is for. Its years from
+/// there to about 20 mostly have no high rate; nor have its last ones, where a high ultimate
+/// forward rate takes lows to 0. A band of such a factor is narrow, so no limit is set.
+pub fn steep_sheet(random: &mut Random, month: u16) -> Sheet {
+    Sheet {
+        month,
+        rates: steep_rates(random),
+        volumes: volumes(random),
+        ufr: match random.below(3) {
+            0 => 10_000,
+            1 => random.between(5_000, 10_000) as u16,
+            _ => random.between(0, 10_000) as u16,
+        },
+        limit: LARGEST_LIMIT,
+        // Without effect at such a 20-year rate, but read.
+        phase_in: random
+            .one_in(4)
+            .then(|| random.between(10_000, 20_000) as u16),
+    }
+}
+
+/// Low rates, then the highest that leaves a factor of 1 or more, or a little less than that,
+/// for all later maturities: only with such a tail can every gap be filled.
+fn steep_rates(random: &mut Random) -> [i16; 17] {
+    // Eight years add up to enough only below 0.
+    let (low_years, level) = if random.one_in(3) {
+        (8, random.between(-1_900, -1_050))
+    } else {
+        (9, random.between(-1_500, 1_400))
+    };
+    let mut rates = [0; 17];
+    let mut annuity = Enclosure::ZERO;
+    for rate in &mut rates[..low_years] {
+        *rate = (level + random.between(-30, 30)) as i16;
+        annuity = annuity.plus(par_factor(i128::from(*rate), annuity));
+    }
+    let below_highest = match random.below(4) {
+        0 | 1 => 0,
+        2 => random.between(0, 12),
+        _ => random.between(0, 60),
+    };
+    rates[low_years..].fill((highest_rate(annuity) - below_highest) as i16);
+    if random.one_in(4) {
+        rates[low_years + random.below(17 - low_years as u64) as usize] -= 1;
+    }
+    rates
+}
+
+/// The highest rate at which the next factor by par has a low of 1 or more, and that a sheet
+/// may quote.
+fn highest_rate(annuity: Enclosure) -> i64 {
+    let rate = RATE_UNIT * (U - 1) / (annuity.high + 1);
+    HIGHEST_QUOTE.min(rate as i64)
+}
+
 /// A sheet in the shape of the end of November 2020: its 20-year rate is near 0, so that its
 /// convergence factor follows X.
 pub fn low_rates(month: u16, phase_in: Option<u16>) -> Sheet {
@@ -281,6 +342,16 @@ fn sheet_month(random: &mut Random, told: u16) -> u16 {
     }
 }
 
+/// The post of a steep sheet and look-ups of it: before and around year 20, anywhere after it,
+/// and anywhere.
+fn steep_records(random: &mut Random, told: u16) -> Vec<u8> {
+    let mut records = post(&sheet_bytes(&steep_sheet(random, told)));
+    for (first, last) in [(8, 24), (21, 150), (1, 150)] {
+        records.extend(look_up(random.between(first, last) as u8));
+    }
+    records
+}
+
 /// A stream of `count` whole records.
 pub fn records(random: &mut Random, count: usize) -> Vec<u8> {
     let mut told = 0;
@@ -291,11 +362,19 @@ pub fn records(random: &mut Random, count: usize) -> Vec<u8> {
     stream
 }
 
-/// A stream of `count` records; sometimes cut, with any byte in one place (a wrong length
-/// shifts all that follows), or ended by any kind.
+/// A stream of `count` records, and a few of a steep sheet after one in 60 of them, so that the
+/// other grounds are met as often as without; sometimes cut, with any byte in one place (a
+/// wrong length shifts all that follows), or ended by any kind.
 pub fn stream(seed: u64, count: usize) -> Vec<u8> {
     let mut random = Random::new(seed);
-    let mut stream = records(&mut random, count);
+    let mut told = 0;
+    let mut stream = Vec::new();
+    for _ in 0..count {
+        stream.extend(record(&mut random, &mut told));
+        if random.one_in(60) {
+            stream.extend(steep_records(&mut random, told));
+        }
+    }
     let at = random.below(stream.len() as u64 + 1) as usize;
     match random.below(8) {
         0 => stream.truncate(at),
@@ -306,9 +385,8 @@ pub fn stream(seed: u64, count: usize) -> Vec<u8> {
     stream
 }
 
-/// `count` accepted posts of one month, each followed by a look-up, for measuring. The posts
-/// are of the same sheets in either case; with the phase-in each has its X, and a factor that
-/// is not that of the table.
+/// `count` accepted posts of one month, for measuring. The posts are of the same sheets in
+/// either case; with the phase-in each has its X, and a factor that is not that of the table.
 pub fn accepted_posts(seed: u64, count: usize, with_phase_in: bool) -> Vec<u8> {
     let mut random = Random::new(seed);
     let mut stream = turn(1);
@@ -324,19 +402,15 @@ pub fn accepted_posts(seed: u64, count: usize, with_phase_in: bool) -> Vec<u8> {
         if with.convergence() != TEN_PERCENT && all_accepted {
             let posted = if with_phase_in { &with } else { &without };
             stream.extend(post(&sheet_bytes(posted)));
-            stream.extend(look_up(1 + random.below(150) as u8));
             done += 1;
         }
     }
     stream
 }
 
-/// An accepted post and `count` look-ups of its curve, for measuring.
-pub fn look_ups(seed: u64, count: usize) -> Vec<u8> {
-    let mut random = Random::new(seed);
+/// An accepted post and `count` look-ups of one year of its curve, for measuring.
+pub fn look_ups(year: u8, count: usize) -> Vec<u8> {
     let mut stream = post(&sheet_bytes(&low_rates(0, None)));
-    for _ in 0..count {
-        stream.extend(look_up(1 + random.below(150) as u8));
-    }
+    stream.extend(look_up(year).repeat(count));
     stream
 }

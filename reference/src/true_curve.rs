@@ -1,4 +1,5 @@
-//! The true curve of order n, and whether a curve's enclosures hold it.
+//! The true curve of order n, whether a curve's enclosures hold it, and whether its own rate
+//! lies between the curve's rates.
 //!
 //! Years 1 to 50 from the quotes are exact fractions: the earlier years' sum and the
 //! newest factor share one denominator, below 1,700 bits up to order 3, so the search
@@ -6,7 +7,7 @@
 //! From the logarithm on, exact fractions would grow to millions of digits; there
 //! every value is an interval of fixed-point numbers with 1,024 bits (308 decimal
 //! digits) and outward rounding, and the precision is doubled when a comparison with
-//! a low or a high is undecided.
+//! a low or a high is undecided. Growth at a rate is an exact fraction in every year.
 
 use crate::bigint::BigInt;
 use crate::bootstrap::FIRST_KEPT_GAP;
@@ -15,6 +16,7 @@ use crate::curve::{Curve, YEARS};
 use crate::enclosure::{Enclosure, RATE_UNIT, U};
 use crate::extrapolation::{FIRST_SMOOTHING_POINT, TWELVEFOLD_MEANS, UFR_UNIT};
 use crate::interval::Interval;
+use crate::rates::ZeroRates;
 use crate::sheet::{Sheet, MATURITIES};
 use crate::weights::HORIZON;
 
@@ -66,6 +68,24 @@ pub struct YearCheck {
     pub slack_below: i128,
     /// High less true factor in millionths of a billionth, rounded down.
     pub slack_above: i128,
+    /// Of a year that has rates: how they stand to it.
+    pub rates: Option<RateCheck>,
+}
+
+impl YearCheck {
+    /// Whether the enclosure and, where there are any, the rates hold the true curve.
+    pub fn holds(&self) -> bool {
+        self.inside && self.rates.is_none_or(|rates| rates.between)
+    }
+}
+
+/// How one year's rates stand to the true curve's own rate.
+#[derive(Clone, Copy, Debug, PartialEq, Eq)]
+pub struct RateCheck {
+    pub rates: ZeroRates,
+    /// Whether the true factor times the growth, without rounding, is at most U × U at the
+    /// low rate and at least U × U at the high rate.
+    pub between: bool,
 }
 
 /// The true curve could not be worked: no multiple is the largest at or below par.
@@ -242,7 +262,29 @@ fn exact_check(year: usize, factor: Enclosure, exact: &Fraction) -> YearCheck {
         inside: !below.is_negative() && !above.is_negative(),
         slack_below: slack(&below),
         slack_above: slack(&above),
+        rates: ZeroRates::of(factor, year).map(|rates| exact_rate_check(year, rates, exact)),
     }
+}
+
+/// The check of the rates of a year whose true factor is an exact fraction.
+fn exact_rate_check(year: usize, rates: ZeroRates, exact: &Fraction) -> RateCheck {
+    let worth = |rate| &exact.numerator * &power(rate, year);
+    let par = &par(year) * &exact.denominator;
+    RateCheck {
+        rates,
+        between: worth(rates.low) <= par && par <= worth(rates.high),
+    }
+}
+
+/// (100,000 + rate)^t. A true factor times growth is at most U × U where the factor times this
+/// is at most `par`, and so for at least: growth without rounding is U × this / 100,000^t.
+fn power(rate: i32, years: usize) -> BigInt {
+    BigInt::from(RATE_UNIT + i128::from(rate)).pow(years)
+}
+
+/// U × 100,000^t.
+fn par(years: usize) -> BigInt {
+    &BigInt::from(U) * &BigInt::from(RATE_UNIT).pow(years)
 }
 
 /// The check of a year whose true factor is an interval, or none if undecided.
@@ -260,6 +302,22 @@ fn interval_check(year: usize, factor: Enclosure, enclosed: &Interval) -> Option
         inside,
         slack_below: below.times(SLACK_UNIT).low_floor(),
         slack_above: above.times(SLACK_UNIT).low_floor(),
+        rates: match ZeroRates::of(factor, year) {
+            Some(rates) => Some(interval_rate_check(year, rates, enclosed)?),
+            None => None,
+        },
+    })
+}
+
+/// The check of the rates of a year whose true factor is an interval, or none if undecided.
+fn interval_rate_check(year: usize, rates: ZeroRates, enclosed: &Interval) -> Option<RateCheck> {
+    let worth = |rate| enclosed.times_whole(&power(rate, year));
+    let par = Interval::whole(&par(year), enclosed.bits());
+    let at_most = par.sub(&worth(rates.low)).not_negative()?;
+    let at_least = worth(rates.high).sub(&par).not_negative()?;
+    Some(RateCheck {
+        rates,
+        between: at_most && at_least,
     })
 }
 

@@ -65,7 +65,7 @@ fn paged(book: &Book, length: usize) -> u8 {
 }
 
 fn number(refusal: Refusal) -> u8 {
-    assert_eq!(refusal.place, 0, "grounds 13 to 16 name no place");
+    assert_eq!(refusal.place, 0, "grounds 13 to 17 name no place");
     refusal.number
 }
 
@@ -242,7 +242,7 @@ fn the_hand_written_journal_under_every_limit() {
             if limit == AGE_LIMIT {
                 assert_eq!(found, expected);
             } else if number == 16 {
-                assert_eq!(free, 0, "only the limit turns this one down");
+                assert!([0, 17].contains(&free), "only the limit says 16");
             } else {
                 assert_eq!(free, expected);
             }
@@ -252,7 +252,7 @@ fn the_hand_written_journal_under_every_limit() {
     }
 }
 
-/// What a look-up of a year 1 to 150 gets of the curve's age alone.
+/// What a look-up of year 1, which always has rates, gets of the curve's age alone.
 fn of_age(age: Option<u64>, limit: u64) -> u8 {
     match age {
         None => 14,
@@ -264,7 +264,7 @@ fn of_age(age: Option<u64>, limit: u64) -> u8 {
 #[test]
 fn the_limit_changes_only_what_is_shown() {
     let mut random = Random::new(16);
-    let mut met = [0; 17];
+    let mut met = [0; 18];
     for _ in 0..150 {
         let journal = journal(&mut random);
         let free = book_after(u64::MAX, &journal);
@@ -281,11 +281,16 @@ fn the_limit_changes_only_what_is_shown() {
                 (paged(&book, 1_505), paged(&book, 1_504)),
                 (expected, short)
             );
-            assert_eq!(answer_on(&book, &look_up(150)), u64::from(expected));
+            assert_eq!(answer_on(&book, &look_up(1)), u64::from(expected));
+            // A later year may have no high rate, which shows only where the curve is shown.
+            let last = answer_on(&book, &look_up(150));
+            assert!(last == u64::from(expected) || (last, expected) == (17, 0));
             met[usize::from(expected)] += 1;
+            met[17] += usize::from(last == 17);
         }
     }
     assert!(met[0] > 100 && met[14] > 100 && met[16] > 100, "{met:?}");
+    assert!(met[17] > 0, "{met:?}");
 }
 
 #[test]

@@ -1,4 +1,4 @@
-//! Every low and high encloses the true factor of orders 0 to 3.
+//! Every low and high encloses the true factor of orders 0 to 3, and so do the rates.
 
 mod common;
 
@@ -14,6 +14,8 @@ fn assert_enclosed(numbers: &Numbers, order: usize) {
     assert_eq!(checks.len(), 150);
     for check in checks {
         assert!(check.inside, "order {order}, {check:?}");
+        let between = check.rates.is_some_and(|rates| rates.between);
+        assert!(between, "order {order}, {check:?}");
         assert!(check.slack_below >= 0 && check.slack_above >= 0);
     }
 }

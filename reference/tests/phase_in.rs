@@ -235,7 +235,7 @@ fn bands_of_random_sheets_hold_the_true_curve() {
         };
         for order in 0..=2 {
             for year in check(&sheet, &curve, order).unwrap() {
-                assert!(year.inside, "order {order}, {year:?}, {sheet:?}");
+                assert!(year.holds(), "order {order}, {year:?}, {sheet:?}");
             }
         }
         if sheet.convergence() == TEN_PERCENT {

@@ -1,6 +1,7 @@
 //! Asks the proved library and the second implementation the same questions after seeded
 //! journals, each under several age limits, and compares answers and buffers. It prints how
-//! often each kind of question met each ground, and fails where one never met 16.
+//! often each kind of question met each ground, and fails where one never met 16, or one that
+//! asks for rates never met 17.
 //!
 //!     differential [SEED [POSTS]]
 
@@ -13,8 +14,8 @@ use reference::journal::calls;
 use reference::questions::{age_limits, call, journal, limits_around};
 use reference::streams::Random;
 
-/// Buffers for look-ups, whose reply has 12 bytes.
-const LOOK_UP_BUFFERS: [usize; 4] = [0, 11, 12, 40];
+/// Buffers for look-ups, whose reply has 28 bytes.
+const LOOK_UP_BUFFERS: [usize; 6] = [0, 12, 27, 28, 29, 60];
 
 /// Buffers for pages, which have 1,505 bytes.
 const PAGE_BUFFERS: [usize; 5] = [0, 1_504, 1_505, 1_506, 2_000];
@@ -94,15 +95,16 @@ fn ask(random: &mut Random, journal: &[u8], met: &mut Met) -> Result<(), String>
     Ok(())
 }
 
-/// Look-ups of three years, the first outside the curve, three pages and the answers to two
-/// records.
-fn questions(random: &mut Random) -> [Question; 8] {
+/// Look-ups of four years, the first outside the curve and the last one early, where steep
+/// curves have no high rate; three pages and the answers to two records.
+fn questions(random: &mut Random) -> [Question; 9] {
     // 2^32 + 20 is outside as well, whatever its low bits are.
     let outside = [0, 151, 255, 256, (1 << 32) + 20, u64::MAX][random.below(6) as usize];
     [
         look_up(random, outside),
-        any_look_up(random),
-        any_look_up(random),
+        look_up_of(random, 1, 150),
+        look_up_of(random, 1, 150),
+        look_up_of(random, 9, 16),
         page(random),
         page(random),
         page(random),
@@ -111,17 +113,22 @@ fn questions(random: &mut Random) -> [Question; 8] {
     ]
 }
 
-fn any_look_up(random: &mut Random) -> Question {
-    let year = 1 + random.below(150);
+/// A look-up of a year from `first` to `last`.
+fn look_up_of(random: &mut Random, first: i64, last: i64) -> Question {
+    let year = random.between(first, last) as u64;
     look_up(random, year)
 }
 
 fn look_up(random: &mut Random, year: u64) -> Question {
-    let length = LOOK_UP_BUFFERS[random.below(4) as usize];
+    let length = any_of(random, &LOOK_UP_BUFFERS);
     Question::LookUp { year, length }
 }
 
 fn page(random: &mut Random) -> Question {
-    let length = PAGE_BUFFERS[random.below(5) as usize];
+    let length = any_of(random, &PAGE_BUFFERS);
     Question::Page { length }
+}
+
+fn any_of(random: &mut Random, lengths: &[usize]) -> usize {
+    lengths[random.below(lengths.len() as u64) as usize]
 }

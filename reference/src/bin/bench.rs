@@ -1,23 +1,34 @@
-//! Times desk programs on a stream of posts and look-ups, in turn, in one run on one
-//! machine, once it has seen that they print the same; then on the same posts with an X,
-//! whose weights are worked anew in each; then on look-ups after one post. The first desk's
-//! time is the denominator of the ratios.
+//! Times desk programs on a stream of posts, in turn, in one run on one machine, once it has
+//! seen that they print the same; then on the same posts with an X, whose weights are worked
+//! anew in each; then on look-ups after one post, those of each of three years apart, since
+//! the rates of a late year take more steps. The first desk's time is the denominator of the
+//! ratios.
 //!
 //!     bench POSTS NAME=DESK NAME=DESK..
 
 use std::fs::File;
-use std::path::Path;
+use std::path::PathBuf;
 use std::process::{Command, ExitCode, Stdio};
 use std::time::{Duration, Instant};
 
 use reference::streams::{accepted_posts, look_ups};
 
 /// Each desk is run this often; the fastest run counts, as the least disturbed one.
-const RUNS: usize = 7;
+const RUNS: usize = 5;
 const SEED: u64 = 7;
 
-/// Look-ups for each post that is asked for, so that both streams take about as long.
-const LOOK_UPS: usize = 50;
+/// The years whose look-ups are timed.
+const YEARS: [u8; 3] = [1, 20, 150];
+
+/// Look-ups in the stream on which the desks are compared, and by whose time each desk's own
+/// number of look-ups is chosen.
+const TRIED_LOOK_UPS: usize = 2_000;
+
+/// How long a run of look-ups should take: long against the start of a program.
+const RUN: Duration = Duration::from_millis(250);
+
+/// A stream of look-ups is not made longer than this many.
+const MOST_LOOK_UPS: usize = 2_000_000;
 
 /// A desk program and what to call it.
 struct Desk {
@@ -61,10 +72,10 @@ fn posts_of(name: &'static str, posts: usize, with_phase_in: bool) -> Load {
     }
 }
 
-fn look_ups_of(calls: usize) -> Load {
+fn look_ups_of(year: u8, calls: usize) -> Load {
     Load {
         name: "after one post",
-        stream: look_ups(SEED, calls),
+        stream: look_ups(year, calls),
         calls,
         unit: "look-ups",
         line: b"L ",
@@ -74,21 +85,95 @@ fn look_ups_of(calls: usize) -> Load {
 fn bench(posts: usize, desks: &[Desk]) -> Result<(), String> {
     let without = run(&posts_of("without X", posts, false), desks)?;
     let with = run(&posts_of("with X", posts, true), desks)?;
-    for ((desk, with), without) in desks.iter().zip(with).zip(without) {
+    for ((desk, with), without) in desks.iter().zip(with).zip(&without) {
         let cost = with.as_secs_f64() / without.as_secs_f64();
         println!("{}: with X {cost:.2} times as long as without", desk.name);
     }
-    run(&look_ups_of(LOOK_UPS * posts), desks).map(|_| ())
+    let post_times: Vec<f64> = without.iter().map(|&time| micros(time, posts)).collect();
+    for year in YEARS {
+        let times = look_up_times(year, desks)?;
+        report_look_ups(year, desks, &times, &post_times);
+    }
+    Ok(())
 }
 
 fn run(load: &Load, desks: &[Desk]) -> Result<Vec<Duration>, String> {
-    // Runs beside each other keep to their own streams.
-    let name = format!("desk-bench-{}", std::process::id());
-    let input = std::env::temp_dir().join(name);
-    let best = compared_and_timed(load, desks, &input);
-    _ = std::fs::remove_file(&input);
-    report(load, desks, best.as_deref().unwrap_or(&[]));
-    best
+    let best = compared_and_timed(load, desks)?;
+    report(load, desks, &best);
+    Ok(best)
+}
+
+fn compared_and_timed(load: &Load, desks: &[Desk]) -> Result<Vec<Duration>, String> {
+    let input = StreamFile::new(&load.stream, 0)?;
+    compare(load, desks, &input)?;
+    let same: Vec<_> = desks.iter().map(|desk| (desk, &input)).collect();
+    timed(&same)
+}
+
+/// A stream as a file, for as long as the value lives.
+struct StreamFile(PathBuf);
+
+impl StreamFile {
+    /// `number` tells apart the files that live at one time.
+    fn new(stream: &[u8], number: usize) -> Result<Self, String> {
+        // Runs beside each other keep to their own streams.
+        let name = format!("desk-bench-{}-{number}", std::process::id());
+        let file = StreamFile(std::env::temp_dir().join(name));
+        match std::fs::write(&file.0, stream) {
+            Ok(()) => Ok(file),
+            Err(error) => Err(file.fault(error)),
+        }
+    }
+
+    fn fault(&self, error: std::io::Error) -> String {
+        format!("{}: {error}", self.0.display())
+    }
+}
+
+impl Drop for StreamFile {
+    fn drop(&mut self) {
+        _ = std::fs::remove_file(&self.0);
+    }
+}
+
+/// The microseconds of one of `calls` calls.
+fn micros(time: Duration, calls: usize) -> f64 {
+    1e6 * time.as_secs_f64() / calls as f64
+}
+
+/// The microseconds of a look-up of `year` at each desk. A slow desk gets fewer of them.
+fn look_up_times(year: u8, desks: &[Desk]) -> Result<Vec<f64>, String> {
+    let tried = compared_and_timed(&look_ups_of(year, TRIED_LOOK_UPS), desks)?;
+    let counts: Vec<usize> = tried.into_iter().map(look_ups_in_a_run).collect();
+    let mut inputs = Vec::new();
+    for (number, (desk, &count)) in desks.iter().zip(&counts).enumerate() {
+        let load = look_ups_of(year, count);
+        let input = StreamFile::new(&load.stream, number)?;
+        accepted(&load, desk, &input)?;
+        inputs.push(input);
+    }
+    let best = timed(&desks.iter().zip(&inputs).collect::<Vec<_>>())?;
+    let times = best.into_iter().zip(counts);
+    Ok(times.map(|(time, count)| micros(time, count)).collect())
+}
+
+/// How many look-ups take about as long as a run should, where those tried took `tried`.
+fn look_ups_in_a_run(tried: Duration) -> usize {
+    let count = TRIED_LOOK_UPS as f64 * RUN.as_secs_f64() / tried.as_secs_f64();
+    (count as usize).clamp(TRIED_LOOK_UPS, MOST_LOOK_UPS)
+}
+
+fn report_look_ups(year: u8, desks: &[Desk], times: &[f64], post_times: &[f64]) {
+    for ((desk, time), post) in desks.iter().zip(times).zip(post_times) {
+        println!(
+            "{}, year {year}: {time:.2} µs a look-up, ratio to {} {:.2}; a post without X takes \
+             {post:.1} µs, a look-up {:.3} of that",
+            desk.name,
+            desks[0].name,
+            time / times[0],
+            time / post
+        );
+    }
 }
 
 fn desk(word: &str) -> Option<Desk> {
@@ -97,12 +182,6 @@ fn desk(word: &str) -> Option<Desk> {
         name: name.to_string(),
         program: program.to_string(),
     })
-}
-
-fn compared_and_timed(load: &Load, desks: &[Desk], input: &Path) -> Result<Vec<Duration>, String> {
-    std::fs::write(input, &load.stream).map_err(|e| format!("{}: {e}", input.display()))?;
-    compare(load, desks, input)?;
-    timed(desks, input)
 }
 
 fn report(load: &Load, desks: &[Desk], best: &[Duration]) {
@@ -120,17 +199,9 @@ fn report(load: &Load, desks: &[Desk], best: &[Duration]) {
     }
 }
 
-/// All desks print the first one's lines, and these accept every call that is counted: a desk
-/// that stops early would look fast.
-fn compare(load: &Load, desks: &[Desk], input: &Path) -> Result<(), String> {
-    let lines = output(&desks[0], input)?;
-    let accepted = lines
-        .split(|&byte| byte == b'\n')
-        .filter(|line| line.starts_with(load.line));
-    if accepted.count() != load.calls {
-        let (name, unit) = (&desks[0].name, load.unit);
-        return Err(format!("{name} does not accept all {unit}"));
-    }
+/// All desks print the first one's lines, and these accept every call that is counted.
+fn compare(load: &Load, desks: &[Desk], input: &StreamFile) -> Result<(), String> {
+    let lines = accepted(load, &desks[0], input)?;
     for desk in &desks[1..] {
         if output(desk, input)? != lines {
             let (first, other) = (&desks[0].name, &desk.name);
@@ -140,14 +211,28 @@ fn compare(load: &Load, desks: &[Desk], input: &Path) -> Result<(), String> {
     Ok(())
 }
 
-fn on(desk: &Desk, input: &Path) -> Result<Command, String> {
-    let file = File::open(input).map_err(|e| format!("{}: {e}", input.display()))?;
+/// The desk's lines, which accept every call that is counted: a desk that stops early would
+/// look fast.
+fn accepted(load: &Load, desk: &Desk, input: &StreamFile) -> Result<Vec<u8>, String> {
+    let lines = output(desk, input)?;
+    let accepted = lines
+        .split(|&byte| byte == b'\n')
+        .filter(|line| line.starts_with(load.line));
+    if accepted.count() != load.calls {
+        let (name, unit) = (&desk.name, load.unit);
+        return Err(format!("{name} does not accept all {unit}"));
+    }
+    Ok(lines)
+}
+
+fn on(desk: &Desk, input: &StreamFile) -> Result<Command, String> {
+    let file = File::open(&input.0).map_err(|error| input.fault(error))?;
     let mut command = Command::new(&desk.program);
     command.stdin(file);
     Ok(command)
 }
 
-fn output(desk: &Desk, input: &Path) -> Result<Vec<u8>, String> {
+fn output(desk: &Desk, input: &StreamFile) -> Result<Vec<u8>, String> {
     let output = on(desk, input)?
         .output()
         .map_err(|e| format!("{}: {e}", desk.program))?;
@@ -157,11 +242,11 @@ fn output(desk: &Desk, input: &Path) -> Result<Vec<u8>, String> {
     Ok(output.stdout)
 }
 
-/// The best time of each desk, over runs that alternate between them.
-fn timed(desks: &[Desk], input: &Path) -> Result<Vec<Duration>, String> {
+/// The best time of each desk on its input, over runs that alternate between them.
+fn timed(desks: &[(&Desk, &StreamFile)]) -> Result<Vec<Duration>, String> {
     let mut best = vec![Duration::MAX; desks.len()];
     for _ in 0..RUNS {
-        for (desk, time) in desks.iter().zip(best.iter_mut()) {
+        for ((desk, input), time) in desks.iter().zip(best.iter_mut()) {
             let mut command = on(desk, input)?;
             command.stdout(Stdio::null());
             let start = Instant::now();

@@ -1,19 +1,42 @@
 //! Runs another desk program on seeded record streams and compares its lines, byte
-//! for byte, with this implementation's. Then checks on sampled sheets that the
-//! curve's bands hold the true factors of orders 0 to 3.
+//! for byte, with this implementation's; fails where no look-up was turned down on 17.
+//! Then checks on sampled sheets that the curve's bands hold the true factors of orders 0
+//! to 3 and that the true curves' own rates lie between the rates.
 //!
 //!     differential DESK [SEED [POSTS [SAMPLES]]]
 
 use std::io::Write;
 use std::process::{Command, ExitCode, Stdio};
 
+use reference::curve::{Curve, YEARS};
 use reference::desk::run_desk;
-use reference::streams::{sheet, stream, worked, Random};
+use reference::rates::ZeroRates;
+use reference::sheet::Sheet;
+use reference::streams::{sheet, steep_sheet, stream, worked, Random};
 use reference::true_curve::check;
 
 /// Records in a stream; about four in ten are posts.
 const RECORDS: usize = 1_000;
 const ORDERS: usize = 4;
+
+/// Every such sample is a steep sheet, in which some years have no high rate.
+const STEEP: u64 = 5;
+
+/// What was compared.
+#[derive(Default)]
+struct Compared {
+    posts: u64,
+    /// Look-ups of years that have no high rate.
+    without_rates: u64,
+}
+
+/// What was checked against the true curves of all orders.
+#[derive(Default)]
+struct Checked {
+    curves: u64,
+    years_with_rates: u64,
+    years_without: u64,
+}
 
 fn main() -> ExitCode {
     let mut arguments = std::env::args().skip(1);
@@ -29,11 +52,16 @@ fn main() -> ExitCode {
     };
     let (seed, posts, samples) = (number(1), number(100_000), number(200));
     match compare_desks(&desk, seed, posts).and_then(|done| {
-        eprintln!("{done} posts compared, no difference");
+        let (posts, without_rates) = (done.posts, done.without_rates);
+        eprintln!("{posts} posts and {without_rates} refusals on 17 compared, no difference");
         check_truth(seed, samples)
     }) {
-        Ok(inside) => {
-            println!("desks agree; {inside} curves hold their true factors of orders 0 to 3");
+        Ok(checked) => {
+            println!(
+                "desks agree; {} curves hold their true factors of orders 0 to 3, and {} of \
+                 their years the true rates, {} have none",
+                checked.curves, checked.years_with_rates, checked.years_without
+            );
             ExitCode::SUCCESS
         }
         Err(text) => {
@@ -43,10 +71,10 @@ fn main() -> ExitCode {
     }
 }
 
-fn compare_desks(desk: &str, seed: u64, posts: u64) -> Result<u64, String> {
-    let mut done = 0;
+fn compare_desks(desk: &str, seed: u64, posts: u64) -> Result<Compared, String> {
+    let mut done = Compared::default();
     let mut number = 0;
-    while done < posts {
+    while done.posts < posts {
         let stream_seed = seed.wrapping_mul(1_000_003).wrapping_add(number);
         let input = stream(stream_seed, RECORDS);
         let mut expected = Vec::new();
@@ -55,29 +83,37 @@ fn compare_desks(desk: &str, seed: u64, posts: u64) -> Result<u64, String> {
         if found != expected {
             return Err(difference(stream_seed, &found, &expected));
         }
-        done += expected_posts(&expected);
+        done.count(&String::from_utf8_lossy(&expected));
         number += 1;
         if number % 20 == 0 {
-            eprintln!("{done} posts");
+            eprintln!("{} posts", done.posts);
         }
+    }
+    if posts > 0 && done.without_rates == 0 {
+        return Err("no look-up was turned down on 17".to_string());
     }
     Ok(done)
 }
 
-/// Lines that answer posts are at least four in ten of all; counting the records
-/// that were answered keeps the figure honest where a stream was cut.
-fn expected_posts(lines: &[u8]) -> u64 {
-    let text = String::from_utf8_lossy(lines);
-    text.lines()
-        .filter(|line| line.starts_with('P') || is_post_refusal(line))
-        .count() as u64
+impl Compared {
+    /// Lines that answer posts are at least four in ten of all; counting the records
+    /// that were answered keeps the figure honest where a stream was cut.
+    fn count(&mut self, lines: &str) {
+        for line in lines.lines() {
+            match refusal_number(line) {
+                Some(1..=10) => self.posts += 1,
+                Some(17) => self.without_rates += 1,
+                _ if line.starts_with('P') => self.posts += 1,
+                _ => {}
+            }
+        }
+    }
 }
 
-fn is_post_refusal(line: &str) -> bool {
-    let number = line
-        .strip_prefix("R ")
-        .and_then(|rest| rest.split(' ').next());
-    matches!(number.and_then(|n| n.parse::<u32>().ok()), Some(1..=10))
+/// The number of a line that turns a record down.
+fn refusal_number(line: &str) -> Option<u32> {
+    let rest = line.strip_prefix("R ")?;
+    rest.split(' ').next()?.parse().ok()
 }
 
 fn run_program(desk: &str, input: &[u8]) -> Result<Vec<u8>, String> {
@@ -114,24 +150,37 @@ fn difference(seed: u64, found: &[u8], expected: &[u8]) -> String {
     )
 }
 
-fn check_truth(seed: u64, samples: u64) -> Result<u64, String> {
+fn check_truth(seed: u64, samples: u64) -> Result<Checked, String> {
     let mut random = Random::new(seed);
-    let mut inside = 0;
-    while inside < samples {
-        let sheet = sheet(&mut random, 0);
-        let Some(curve) = worked(&sheet) else {
-            continue;
+    let mut checked = Checked::default();
+    while checked.curves < samples {
+        let sheet = if checked.curves.is_multiple_of(STEEP) {
+            steep_sheet(&mut random, 0)
+        } else {
+            sheet(&mut random, 0)
         };
-        for order in 0..ORDERS {
-            let years = check(&sheet, &curve, order).map_err(|e| format!("{e:?}"))?;
-            if let Some(year) = years.iter().find(|year| !year.inside) {
-                return Err(format!("order {order}, year {}: {sheet:?}", year.year));
-            }
-        }
-        inside += 1;
-        if inside % 50 == 0 {
-            eprintln!("{inside} curves hold their true factors");
+        if let Some(curve) = worked(&sheet) {
+            check_curve(&sheet, &curve, &mut checked)?;
         }
     }
-    Ok(inside)
+    Ok(checked)
+}
+
+fn check_curve(sheet: &Sheet, curve: &Curve, checked: &mut Checked) -> Result<(), String> {
+    for order in 0..ORDERS {
+        let years = check(sheet, curve, order).map_err(|e| format!("{e:?}"))?;
+        if let Some(year) = years.iter().find(|year| !year.holds()) {
+            return Err(format!("order {order}, {year:?}: {sheet:?}"));
+        }
+    }
+    let with_rates = |&year: &usize| ZeroRates::of(curve.factor(year), year).is_some();
+    let with_rates = (1..=YEARS).filter(with_rates).count();
+    checked.years_with_rates += with_rates as u64;
+    checked.years_without += (YEARS - with_rates) as u64;
+    checked.curves += 1;
+    if checked.curves.is_multiple_of(50) {
+        let curves = checked.curves;
+        eprintln!("{curves} curves hold their true factors and rates");
+    }
+    Ok(())
 }

@@ -1,5 +1,6 @@
 //! Reads a sheet from standard input and an order n as first argument; writes
-//! `year low high inside` for each year, or the line of the refusal. With `slack` as
+//! `year low high inside low-rate high-rate between` for each year, with `-` in place of the
+//! last three where the year has no rates, or the line of the refusal. With `slack` as
 //! second argument each line also gives the true factor less the low and the high
 //! less the true factor, in billionths.
 
@@ -8,7 +9,7 @@ use std::process::ExitCode;
 
 use reference::curve::Curve;
 use reference::sheet::Sheet;
-use reference::true_curve::{check, YearCheck, SLACK_UNIT};
+use reference::true_curve::{check, RateCheck, YearCheck, SLACK_UNIT};
 
 fn main() -> io::Result<ExitCode> {
     let mut arguments = std::env::args().skip(1);
@@ -62,9 +63,9 @@ fn write_checks(
 }
 
 fn line(check: &YearCheck, with_slack: bool) -> String {
-    let inside = if check.inside { "yes" } else { "no" };
-    let (low, high) = (check.factor.low, check.factor.high);
-    let line = format!("{} {low} {high} {inside}", check.year);
+    let (low, high, inside) = (check.factor.low, check.factor.high, yes_or_no(check.inside));
+    let rates = check.rates.map_or("- - -".to_string(), rate_words);
+    let line = format!("{} {low} {high} {inside} {rates}", check.year);
     if !with_slack {
         return line;
     }
@@ -73,6 +74,19 @@ fn line(check: &YearCheck, with_slack: bool) -> String {
         decimal(check.slack_below),
         decimal(check.slack_above)
     )
+}
+
+fn rate_words(check: RateCheck) -> String {
+    let (low, high) = (check.rates.low, check.rates.high);
+    format!("{low} {high} {}", yes_or_no(check.between))
+}
+
+fn yes_or_no(answer: bool) -> &'static str {
+    if answer {
+        "yes"
+    } else {
+        "no"
+    }
 }
 
 /// A slack in billionths with six decimal places.

@@ -1,12 +1,22 @@
-//! Writes a desk's record stream that reaches every ground a desk can reach, with many
-//! places, and accepted curves at many convergence factors, each looked up at its ends,
-//! around the smoothing year and elsewhere.
+//! Writes a stored record stream of the desk:
+//!
+//!     vectors
+//!     vectors zero_rates
+//!
+//! The first, stored as phase_in, reaches grounds 1 to 14, with many places, and accepted
+//! curves at many convergence factors, each looked up at its ends, around the smoothing year
+//! and elsewhere. The second reaches ground 17 as well, and looks up all 150 years of curves,
+//! of which some have rates in every year and the others have not.
 
 use std::io::Write;
+use std::process::ExitCode;
 
+use reference::curve::YEARS as LAST_YEAR;
 use reference::every_ground;
 use reference::journal::{look_up, post, turn};
-use reference::streams::{low_rates, records, sheet, sheet_bytes, worked, Random};
+use reference::rates::ZeroRates;
+use reference::sheet::Sheet;
+use reference::streams::{low_rates, records, sheet, sheet_bytes, steep_sheet, worked, Random};
 
 const SEED: u64 = 2_026;
 const CURVES: usize = 60;
@@ -25,12 +35,31 @@ const WRONG_LENGTHS: [usize; 14] = [
     0, 1, 2, 3, 108, 110, 111, 113, 114, 115, 255, 365, 368, 65_535,
 ];
 
-fn main() -> std::io::Result<()> {
+/// Curves of steep sheets in the stream of zero rates.
+const STEEP_CURVES: usize = 5;
+
+fn main() -> std::io::Result<ExitCode> {
+    let words: Vec<_> = std::env::args().skip(1).collect();
+    let stream = match words.iter().map(String::as_str).collect::<Vec<_>>()[..] {
+        [] => phase_in(),
+        ["zero_rates"] => zero_rates(),
+        _ => {
+            eprintln!("usage: vectors [zero_rates]");
+            return Ok(ExitCode::from(2));
+        }
+    };
+    std::io::stdout().write_all(&stream)?;
+    Ok(ExitCode::SUCCESS)
+}
+
+fn bytes(records: Vec<every_ground::Answered>) -> Vec<u8> {
+    let records = records.into_iter();
+    records.flat_map(|(record, _, _)| record).collect()
+}
+
+fn phase_in() -> Vec<u8> {
     let mut random = Random::new(SEED);
-    let mut stream: Vec<u8> = every_ground::desk_records()
-        .into_iter()
-        .flat_map(|(record, _, _)| record)
-        .collect();
+    let mut stream = bytes(every_ground::base_records());
     stream.extend(records(&mut random, RECORDS));
     stream.extend(turn(LAST_MONTH));
     stream.extend(lengths_and_last_records());
@@ -48,7 +77,57 @@ fn main() -> std::io::Result<()> {
     stream.extend([turn(LAST_MONTH + 1), turn(LAST_MONTH - 1)].concat());
     // An unknown kind ends it.
     stream.push(0x51);
-    std::io::stdout().write_all(&stream)
+    stream
+}
+
+fn zero_rates() -> Vec<u8> {
+    let mut stream = bytes(every_ground::desk_records());
+    stream.extend(turn(LAST_MONTH));
+    let sheets = [flat(0, 0), flat(3_000, 3_000), flat(-150, 0)];
+    let steep = [steep_tail(0), steep_tail(10_000)];
+    let low = [low_rates(LAST_MONTH, Some(20_000))];
+    let sheets = [&sheets[..], &steep, &low, &sampled()].concat();
+    stream.extend(sheets.iter().flat_map(posted_and_looked_up));
+    // Cut after the kind.
+    stream.push(0x4C);
+    stream
+}
+
+/// The sheet's post, and look-ups of all its years.
+fn posted_and_looked_up(sheet: &Sheet) -> Vec<u8> {
+    let years = (1..=LAST_YEAR).flat_map(|year| look_up(year as u8));
+    post(&sheet_bytes(sheet)).into_iter().chain(years).collect()
+}
+
+fn flat(rate: i16, ufr: u16) -> Sheet {
+    Sheet {
+        month: LAST_MONTH,
+        rates: [rate; 17],
+        volumes: [1; 5],
+        ufr,
+        limit: 100_000,
+        phase_in: None,
+    }
+}
+
+/// Year 9 is U, year 10 is U / 111,111.
+fn steep_tail(ufr: u16) -> Sheet {
+    let mut sheet = flat(11_111, ufr);
+    sheet.rates[..9].fill(0);
+    sheet
+}
+
+/// Accepted steep sheets, each of them with years that have no high rate.
+fn sampled() -> Vec<Sheet> {
+    let mut random = Random::new(SEED);
+    let sheets = std::iter::repeat_with(|| steep_sheet(&mut random, LAST_MONTH));
+    sheets.filter(lacks_rates).take(STEEP_CURVES).collect()
+}
+
+fn lacks_rates(sheet: &Sheet) -> bool {
+    worked(sheet).is_some_and(|curve| {
+        (1..=LAST_YEAR).any(|year| ZeroRates::of(curve.factor(year), year).is_none())
+    })
 }
 
 /// One sheet cut or followed by zeros to lengths that no sheet has; with last records of other
