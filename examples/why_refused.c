@@ -7,7 +7,7 @@
 #include "age_limit.h"
 #include "tuyqorem.h"
 
-/* The grounds of docs/SPECIFICATION.md, section 9; a record can meet 1 to 14 and 16. */
+/* The grounds of docs/SPECIFICATION.md, section 9; a record can meet 1 to 14, 16 and 17. */
 static const char *const reasons[] = {
     "",
     "the sheet's length is neither 109 nor 112",
@@ -26,6 +26,7 @@ static const char *const reasons[] = {
     "the book has no curve",
     "the buffer has fewer than 1,505 bytes",
     "the curve's age is above the book's limit",
+    "no high rate up to 100,000 exists",
 };
 
 /* Only a whole record is measured, so its length bytes are there. */

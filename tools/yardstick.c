@@ -425,11 +425,84 @@ static Ground turn(Book *book, int month) {
     return none;
 }
 
+/* Zero rates [7.1], by the multiplier, 100,000 more than the rate: where growth comes to pass a bound. */
+
+static const uint64_t square = 1000000000000000000, cap = square + 1;
+
+static uint64_t year_on(uint64_t g, uint64_t m, bool up) {
+    uint64_t more = up ? 99999 : 0;
+    if (g < 90000000000000) return (g * m + more) / 100000;
+    uint64_t product = g / 100000 * m + (g % 100000 * m + more) / 100000;
+    return product < cap ? product : cap;
+}
+
+typedef struct {
+    uint64_t here, next;
+} Growths;
+
+static Growths grow(uint64_t m, int years, bool up) {
+    Growths g = {U, U};
+    for (int year = 0; year < years; year++) {
+        g.here = year_on(g.here, m, up);
+        g.next = year_on(g.next, m + 1, up);
+    }
+    return g;
+}
+
+/* By squaring: nearly right. */
+static double nearly(uint64_t m, int years) {
+    double product = U, power = (double)m / 100000;
+    for (int left = years; left > 0; left /= 2) {
+        if (left % 2) product *= power;
+        power *= power;
+    }
+    return product;
+}
+
+static bool turns(uint64_t m, uint64_t hi, int years, uint64_t bound, bool up) {
+    Growths g = grow(m, years, up);
+    return g.here <= bound && (m + 1 == hi || bound < g.next);
+}
+
+/* The last multiplier from lo on, before hi, whose growth is within the bound: near or guessed, if a test confirms it, else searched. */
+static uint64_t turning_point(uint64_t near, uint64_t lo, uint64_t hi, int years, uint64_t bound, bool up) {
+    if (lo <= near && near < hi && turns(near, hi, years, bound, up)) return near;
+    uint64_t below = lo, above = hi;
+    while (above - below > 1) {
+        uint64_t middle = below + (above - below) / 2;
+        *(nearly(middle, years) <= (double)bound ? &below : &above) = middle;
+    }
+    if (turns(below, hi, years, bound, up)) return below;
+    for (below = lo, above = hi; above - below > 1;) {
+        uint64_t middle = below + (above - below) / 2;
+        *(grow(middle, years, up).here <= bound ? &below : &above) = middle;
+    }
+    return below;
+}
+
+/* Ground 17, or the rates of a year's factor. */
+static Ground zero_rates(int year, Pair factor, Pair *rates) {
+    if (factor.low == 0) return ground(17, 0);
+    uint64_t falls_short = turning_point(0, 49999, 200001, year, (square - 1) / (uint64_t)factor.low, false);
+    if (falls_short >= 200000) return ground(17, 0);
+    rates->low = (int64_t)turning_point(falls_short, 50000, 200001, year, square / (uint64_t)factor.high, true) - 100000;
+    rates->high = (int64_t)falls_short + 1 - 100000;
+    return none;
+}
+
+/* The desk prints no rates. They are kept here, so that the compiler does not drop their work. */
+static volatile Pair rates_of_last_look_up;
+
 /* The desk's age limit is the largest, which no curve's age is above, so ground 16 has no place here. */
 static Ground look_up(const Book *book, int year, Pair *factor) {
+    Pair rates;
     if (year < 1 || year > YEARS) return ground(13, 0);
     if (!book->has_curve) return ground(14, 0);
     *factor = book->factors[year];
+    Ground found = zero_rates(year, *factor, &rates);
+    if (found.number) return found;
+    rates_of_last_look_up.low = rates.low;
+    rates_of_last_look_up.high = rates.high;
     return none;
 }
 
