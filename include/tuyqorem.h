@@ -11,13 +11,14 @@
  * curve that is older than the limit is turned away with 16 and not shown. The book still holds it: posts and turns are
  * answered as with any other limit.
  *
- * This is the interface from the age limit (U2) on: age_limit is the first parameter of every function. Later ones insert
- * parameters and lengthen replies, so a program is compiled with the header of the library that it is linked with.
+ * This is the interface from the zero rates (U3) on: a look-up's reply has 28 bytes, and had 12. Later ones insert parameters,
+ * so a program is compiled with the header of the library that it is linked with.
  *
  * It is proved of tuyqorem_look_after and tuyqorem_page_after, for every age limit and every journal: no curve is found
  * exactly when no post of the journal was accepted; a curve older than the limit answers 16; otherwise month and age are
  * those of the last accepted sheet and turn, and each band is within that sheet's limit and holds the true factor of every
- * order.
+ * order. A look-up's rates are the largest and the smallest of their rule (docs/SPECIFICATION.md, 7.1), and the true curve's
+ * own rate of every order lies between them; a look-up answers 17 exactly when there is no high rate.
  *
  * It is proved of tuyqorem_answer_after, for every age limit, every journal and every call: the answer is exactly the one
  * that the definitions give to that call on the book of the journal.
@@ -34,10 +35,11 @@
 extern "C" {
 #endif
 
-/* The band of a year after the journal's calls. Returns 0 and writes 12 bytes to out: low (4), high (4), sheet month (2),
- * age in months (2), high byte first; the bytes of out past them are kept. Otherwise out is left as it was and the
- * answer is, tried in this order, 13 (the year is not 1 to 150), 14 (no curve), 16 (the curve is older than the age limit)
- * or 15 (out has fewer than 12 bytes). */
+/* The band of a year and its zero rates after the journal's calls. Returns 0 and writes 28 bytes to out: low (8), high (8),
+ * sheet month (2), age in months (2), low rate (4), high rate (4), high byte first. A factor is in billionths; a rate is in
+ * hundred-thousandths of one, 3,000 being 3%, in two's complement, from -50,000 to 100,000. The bytes of out past them are
+ * kept. Otherwise out is left as it was and the answer is, tried in this order, 13 (the year is not 1 to 150), 14 (no curve),
+ * 16 (the curve is older than the age limit), 17 (no high rate up to 100,000 exists) or 15 (out has fewer than 28 bytes). */
 uint64_t tuyqorem_look_after(uint64_t age_limit, const uint8_t *calls, size_t calls_len, uint64_t year, uint8_t *out,
                              size_t out_len);
 
@@ -49,7 +51,7 @@ uint64_t tuyqorem_page_after(uint64_t age_limit, const uint8_t *calls, size_t ca
 
 /* The answer that one more call gets after the journal's calls: for programs that keep a journal and must say why a sheet
  * was turned down. The call is the first record of call, written as in a journal; the bytes past it are ignored. Returns
- * 0 where it is accepted. Otherwise the answer is number + 256 * place: the number, 1 to 14 or 16, of the first ground that
+ * 0 where it is accepted. Otherwise the answer is number + 256 * place: the number, 1 to 14, 16 or 17, of the first ground that
  * applies (docs/SPECIFICATION.md, section 9), and the record, year or maturity that it names, 0 where it names none; or
  * 255, where call starts with no whole record: it is empty, its kind is unknown or its body is cut. */
 uint64_t tuyqorem_answer_after(uint64_t age_limit, const uint8_t *calls, size_t calls_len, const uint8_t *call,

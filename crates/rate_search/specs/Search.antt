@@ -30,7 +30,12 @@ pub record Between (lo hi m : ℕ) : Type 0 where
   pub from : lo ≤ m
   pub below : m < hi
 
--- within the bound at m, unless m is the first; past it at the next, unless that is the end
+-- within the bound at m; past it at the next, unless that is the end
+pub record Confirmed (up : Bool) (t bound hi m : ℕ) : Type 0 where
+  pub here : within up t bound m ≡ true
+  pub next : m + 1 < hi → within up t bound (m + 1) ≡ false
+
+-- the same between two ends, of which the first need not be within
 pub record Turns (up : Bool) (t bound lo hi m : ℕ) : Type 0 where
   pub between : Between lo hi m
   pub here : lo < m → within up t bound m ≡ true

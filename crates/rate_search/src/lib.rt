@@ -14,7 +14,7 @@ ghost use Rattle.method.specs.Grounds.{noHighRate, refused};
 ghost use Rattle.zero_rates.specs.Rates.{lowMultiplier, rateOf, zeroRates};
 ghost use Rattle.grounds.specs.Verdicts.{asOutcome, resultOr};
 ghost use Rattle.rounding.specs.Pairs.{asSignedPair};
-ghost use Rattle.rate_search.specs.Search.{unitSquared, cap, GrowthsOf, within, Between, Turns, Halved, noRates};
+ghost use Rattle.rate_search.specs.Search.{unitSquared, cap, GrowthsOf, within, Confirmed, Turns, Halved, noRates};
 
 const UNIT: u64 = 1_000_000_000;
 
@@ -123,9 +123,9 @@ fn halve(lo: u64, hi: u64, years: u64, bound: u64, up: bool, exact: bool) -> u64
 }
 
 // Whether the growth comes to pass the bound right after m.
-fn turns(m: u64, lo: u64, hi: u64, years: u64, bound: u64, up: bool) -> bool
-    requires { ⌜ Between lo hi m × (hi ≤ 200_001) × (bound ≤ unitSquared) ⌝ }
-    ensures { λ r. ⌜ (r ≡ true → Turns up years bound lo hi m) ⌝ }
+fn turns(m: u64, hi: u64, years: u64, bound: u64, up: bool) -> bool
+    requires { ⌜ (m < hi) × (hi ≤ 200_001) × (bound ≤ unitSquared) ⌝ }
+    ensures { λ r. ⌜ (r ≡ true → Confirmed up years bound hi m) ⌝ }
 {
     let g = grow(m, years, up);
     if bound < g.here {
@@ -138,18 +138,18 @@ fn turns(m: u64, lo: u64, hi: u64, years: u64, bound: u64, up: bool) -> bool
 }
 
 // `near` is tried first, if it lies between the ends, then the guess. Both are tested, and where both are wrong the exact growth finds
-// the place: that costs ten times as much, and is hardly ever needed.
+// the place: that costs more than ten times as much, and is hardly ever needed.
 fn turning_point(near: u64, lo: u64, hi: u64, years: u64, bound: u64, up: bool) -> u64
     requires { ⌜ (lo < hi) × (hi ≤ 200_001) × (bound ≤ unitSquared) ⌝ }
     ensures { λ r. ⌜ Turns up years bound lo hi r ⌝ }
 {
     if lo <= near && near < hi {
-        if turns(near, lo, hi, years, bound, up) {
+        if turns(near, hi, years, bound, up) {
             return near;
         }
     }
     let guess = halve(lo, hi, years, bound, up, false);
-    if turns(guess, lo, hi, years, bound, up) {
+    if turns(guess, hi, years, bound, up) {
         return guess;
     }
     halve(lo, hi, years, bound, up, true)

@@ -8,7 +8,9 @@ turns-requires : tie.Need-turns-requires
 turns-requires c κs = search needs
 
 returns : tie.Need-returns
-returns c = c .before .turns .ensures (c .if3 .taken)
+returns c =
+    let confirmed = c .before .turns .ensures (c .if3 .taken) in
+    record { between = record { from = search needs; below = search needs }; here = λ h. confirmed .here; next = confirmed .next }
 
 halve-requires : tie.Need-halve-requires
 halve-requires c κs = search needs
@@ -17,7 +19,9 @@ turns-requires-2 : tie.Need-turns-requires-2
 turns-requires-2 c κs = search needs
 
 returns-2 : tie.Need-returns-2
-returns-2 c = c .before .turns2 .ensures (c .if4 .taken)
+returns-2 c =
+    let confirmed = c .before .turns2 .ensures (c .if4 .taken) in
+    record { between = c .before .before .halve .ensures .between; here = λ h. confirmed .here; next = confirmed .next }
 
 halve-requires-2 : tie.Need-halve-requires-2
 halve-requires-2 c κs = search needs

@@ -8,13 +8,13 @@ use Rattle.rate_search.proofs.turns.Statement.{statement}
 use Rattle.rate_search.proofs.turns.Tie as tie
 
 grow-requires : tie.Need-grow-requires
-grow-requires c κs = omega (arith, c .pre .0 .below, c .pre .1)
+grow-requires c κs = omega (arith, c .pre .0, c .pre .1)
 
 returns : tie.Need-returns
 returns c e = let z : _≡_ {A = ℕ} 0 1 = cc in absurd (omega arith)
 
 add-if2 : tie.Need-add-if2
-add-if2 c = record { fits = omega (arith, c .before .before .before .pre .0 .below, c .before .before .before .pre .1) }
+add-if2 c = record { fits = omega (arith, c .before .before .before .pre .0, c .before .before .before .pre .1) }
 
 returns-2 : tie.Need-returns-2
 returns-2 c e =
@@ -24,8 +24,7 @@ returns-2 c e =
     let a = s .args in
     let g = at-here .before .before .grow .ensures in
     record {
-      between = s .pre .0;
-      here = λ h. cut-within (a .up) (a .m) (a .years) (s .pre .2) (g .here) (at-here .if1 .left);
+      here = cut-within (a .up) (a .m) (a .years) (s .pre .2) (g .here) (at-here .if1 .left);
       next = λ h. cut-past (a .up) (a .m + 1) (a .years) (s .pre .2) (g .next) (ltb-true _ _ e);
     }
 
@@ -36,8 +35,7 @@ returns-3 c e =
     let a = s .args in
     let g = at-here .before .before .grow .ensures in
     record {
-      between = s .pre .0;
-      here = λ h. cut-within (a .up) (a .m) (a .years) (s .pre .2) (g .here) (at-here .if1 .left);
+      here = cut-within (a .up) (a .m) (a .years) (s .pre .2) (g .here) (at-here .if1 .left);
       next = λ h. absurd (omega (arith, h, c .if2 .left));
     }
 
