@@ -33,5 +33,5 @@ signed-back (pos n) l u =
     rw (lt-leb 2_147_483_648 n (omega arith)) (ap pos (omega arith))
 signed-back (negsuc n) l u =
     let small = leb→le n 2_147_483_647 (l .le) in
-    let is : 4_294_967_295 - n % 4_294_967_296 ≡ 4_294_967_295 - n = omega arith in
+    let is : twosComplement32 (negsuc n) ≡ 4_294_967_295 - n = omega arith in
     rw (is, le-leb 2_147_483_648 (4_294_967_295 - n) (omega arith), lt-ltb (4_294_967_295 - n) 4_294_967_296 (omega arith)) (ap negsuc (omega arith))

@@ -1,16 +1,20 @@
 -- The entry at the year with its rates, the month and the age; or the 17 of the rates.
-use mathlib.Core.Path.{sym, ap, ap₂, _∙_}
+use mathlib.Core.Path.{_≡_, sym, ap, ap₂, _∙_}
 use Prim.Native.Nat.{ℕ}
 use mir.Syntax.{w64}
 use mir.ValLaws.{toZ-ofZ}
 use Rattle.method.specs.Units.{SignedPair, signedPair}
 use Rattle.method.specs.Grounds.{Outcome, done, _>>=_}
+use Rattle.method.specs.Curve.{Curve}
 use Rattle.ledger.specs.Answers.{Finding, finding}
 use Rattle.ledger.specs.Book.{age, bandAt}
-use Rattle.grounds.specs.Verdicts.{resultOr}
+use Rattle.grounds.specs.declared.Verdict.{Verdict}
+use Rattle.grounds.specs.Verdicts.{asOutcome, resultOr}
 use Rattle.grounds.proofs.Chain.{at-verdict, refused-alone}
+use Rattle.rounding.specs.Pairs.{asSignedPair}
 use Rattle.curve.specs.Curves.{asCurve}
 use Rattle.book.specs.Views.{noFinding}
+use Rattle.book.specs.Steps.{foundAt}
 use borrow.Author.Needs.{needs}
 use Rattle.book.proofs.found.Statement.{statement}
 use Rattle.book.proofs.found.Tie as tie
@@ -42,29 +46,39 @@ enum-told-2 c = search needs
 not-found-requires : tie.Need-not-found-requires
 not-found-requires c κs = search needs
 
+-- what the verdict of the rates makes of the year
+module _ (p : tie.After-zero-rates) where
+  abbrev start : tie.Start
+  start = p .before .before .before .before
+
+  abbrev curve : Curve
+  curve = asCurve (start .args .curve)
+
+  abbrev with-rates : SignedPair → ℕ → Finding
+  with-rates r months = finding (bandAt curve (start .args .year)) r (start .args .curve .month) months
+
+  found-by : {w : Verdict} → p .zero-rates .result .verdict ≡ w →
+      foundAt curve (start .args .told) (start .args .year)
+      ≡ (asOutcome w (asSignedPair (p .zero-rates .result .rates)) >>= (λ r. done (with-rates r (age (start .args .told) curve))))
+  found-by told =
+      ap (λ (o : Outcome SignedPair). o >>= (λ r. done (with-rates r (age (start .args .told) curve)))) (at-verdict _ told (p .zero-rates .ensures .0))
+
 returns : tie.Need-returns
 returns c =
-    let at-rates = c .before .before .before in
     let told = c .before .enum-told2 .given .1 in
-    let unrated = at-verdict _ told (at-rates .zero-rates .ensures .0) in
-    refused-alone (c .not-found .ensures .0) told (c .not-found .ensures .1) (rw unrated)
+    refused-alone (c .not-found .ensures .0) told (c .not-found .ensures .1) (found-by (c .before .before .before) told)
 
 age-requires : tie.Need-age-requires
 age-requires c κs = search needs
 
 returns-2 : tie.Need-returns-2
 returns-2 c =
-    let at-age = c .before in
-    let at-told = at-age .before .before in
+    let at-told = c .before .before .before in
     let at-rates = at-told .before .before in
-    let a = at-rates .before .before .before .before .args in
-    let curve = asCurve (a .curve) in
-    let with-rates : SignedPair → ℕ → Finding = λ r months. finding (bandAt curve (a .year)) r (a .curve .month) months in
-    let rated = at-verdict _ (at-told .enum-told .given .1) (at-rates .zero-rates .ensures .0) in
-    let found = ap (λ (o : Outcome SignedPair). o >>= (λ r. done (with-rates r (age (a .told) curve)))) rated in
+    let found = found-by at-rates (at-told .enum-told .given .1) in
     let fits = c .struct-told .given in
     let read = ap₂ signedPair (toZ-ofZ w64 _ (record { sfits = fits .0 .1 })) (toZ-ofZ w64 _ (record { sfits = fits .1 .0 .1 })) in
-    let same = ap₂ with-rates read (at-age .age .ensures) in
+    let same = ap₂ (with-rates at-rates) read (c .before .age .ensures) in
     (ap done same ∙ sym found, same ∙ ap (resultOr noFinding) (sym found))
 
 pub found-spec : {M : Type 1} → statement M
