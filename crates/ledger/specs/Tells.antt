@@ -37,9 +37,9 @@ pub record Band (s : List ℕ) (y : ℕ) (p : Pair) : Type 0 where
 
 -- ---- a look-up
 
--- written out here, so that no name is shared with the look-up
-abbrev pub finding : Count → List ℕ → ℕ → SignedPair → Finding
-finding c s y r =
+-- of the sheet that the count holds; written out here, so that nothing is shared with the look-up
+abbrev pub findingOf : Count → List ℕ → ℕ → SignedPair → Finding
+findingOf c s y r =
     record {
       low = bandOf s y .low;
       high = bandOf s y .high;
@@ -52,7 +52,7 @@ finding c s y r =
 pub record Finds (c : Count) (s : List ℕ) (y : ℕ) (a : Outcome Finding) : Type 0 where
   pub not-after-told : monthOf s ≤ c .told
   pub rates : SignedPair
-  pub found : a ≡ done (finding c s y rates)
+  pub found : a ≡ done (findingOf c s y rates)
   pub band : Band s y (bandOf s y)
   -- the largest and the smallest of the rule, and the true curve's own rate of every order between them
   pub band-rates : BandRates y (bandOf s y) rates
