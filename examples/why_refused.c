@@ -5,6 +5,7 @@
  * A program that keeps a journal would ask the same before it adds a record. It compiles as C++ too. */
 #include <stdio.h>
 #include "age_limit.h"
+#include "short_journal.h"
 #include "tuyqorem.h"
 
 /* The grounds of docs/SPECIFICATION.md, section 9; a record can meet 1 to 14, 16 and 17. */
@@ -49,19 +50,15 @@ int main(int argc, char **argv) {
         fprintf(stderr, "usage: why_refused [AGE_LIMIT] < journal\n");
         return 2;
     }
-    static uint8_t calls[1 << 20];
-    size_t held = fread(calls, 1, sizeof calls, stdin);
-    if (held == sizeof calls) {
-        fprintf(stderr, "the journal is too long for this example\n");
-        return 1;
-    }
+    size_t held;
+    if (!read_journal(&held)) return 1;
     /* The first `at` bytes are the journal, and the record behind them is the call. */
     size_t at = 0;
     for (;;) {
-        uint64_t answer = tuyqorem_answer_after(age_limit, calls, at, calls + at, held - at);
+        uint64_t answer = tuyqorem_answer_after(age_limit, journal, at, journal + at, held - at);
         if (answer == 255) break;
         print_answer(answer);
-        at += record_length(calls + at);
+        at += record_length(journal + at);
     }
     if (at < held) printf("no whole record at byte %lu\n", (unsigned long)at);
     return 0;

@@ -5,6 +5,7 @@
  * It compiles as C++ too, hence the casts. */
 #include <stdio.h>
 #include "age_limit.h"
+#include "short_journal.h"
 #include "tuyqorem.h"
 
 /* A rate in four bytes, two's complement, in hundred-thousandths: 3,000 is 3%. */
@@ -24,15 +25,11 @@ int main(int argc, char **argv) {
         fprintf(stderr, "usage: zero_rates [AGE_LIMIT] < journal\n");
         return 2;
     }
-    static uint8_t calls[1 << 20];
-    size_t held = fread(calls, 1, sizeof calls, stdin);
-    if (held == sizeof calls) {
-        fprintf(stderr, "the journal is too long for this example\n");
-        return 1;
-    }
+    size_t held;
+    if (!read_journal(&held)) return 1;
     for (unsigned year = 1; year <= 150; year++) {
         uint8_t found[28];
-        uint64_t refused = tuyqorem_look_after(age_limit, calls, held, year, found, sizeof found);
+        uint64_t refused = tuyqorem_look_after(age_limit, journal, held, year, found, sizeof found);
         printf("%u", year);
         if (refused) {
             printf(" refused: %u", (unsigned)refused);
