@@ -3,7 +3,6 @@
 mod page_bytes;
 
 use curve::Curve;
-use extrapolation::Years;
 use grounds::Ground;
 use grounds::Verdict;
 use sheet::Numbers;
@@ -60,14 +59,7 @@ pub fn fresh(age_limit: u64) -> Book
         age_limit: rounding::smaller(age_limit, LARGEST_AGE_LIMIT),
         told: 0,
         has: false,
-        curve: Curve {
-            month: 0,
-            limit: 0,
-            years: Years {
-                lows: [0; 150],
-                highs: [0; 150],
-            },
-        },
+        curve: curve::no_curve(),
     }
 }
 

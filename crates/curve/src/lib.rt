@@ -126,20 +126,27 @@ fn first_too_wide(years: Years, limit: u64) -> u64
     0
 }
 
+// What stands beside a refusal, and in a book that has no curve.
+pub fn no_curve() -> Curve
+    ensures { λ r. ⌜ asCurve r ≡ noCurve ⌝ }
+{
+    Curve {
+        month: 0,
+        limit: 0,
+        years: Years {
+            lows: [0; 150],
+            highs: [0; 150],
+        },
+    }
+}
+
 fn unworked(verdict: Verdict) -> Worked
     ensures verdict { λ r. ⌜ r .verdict ≡ verdict ⌝ }
     ensures beside { λ r. ⌜ asCurve (r .curve) ≡ noCurve ⌝ }
 {
     Worked {
         verdict: verdict,
-        curve: Curve {
-            month: 0,
-            limit: 0,
-            years: Years {
-                lows: [0; 150],
-                highs: [0; 150],
-            },
-        },
+        curve: no_curve(),
     }
 }
 

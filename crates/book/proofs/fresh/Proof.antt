@@ -6,8 +6,11 @@ use Rattle.book.proofs.fresh.Tie as tie
 smaller-requires : tie.Need-smaller-requires
 smaller-requires c κs = search needs
 
+no-curve-requires : tie.Need-no-curve-requires
+no-curve-requires c κs = search needs
+
 returns : tie.Need-returns
-returns c = rw (c .smaller .ensures)
+returns c = rw (c .before .smaller .ensures)
 
 pub fresh-spec : {M : Type 1} → statement M
-fresh-spec = tie.close (tie.spec smaller-requires returns)
+fresh-spec = tie.close (tie.spec smaller-requires no-curve-requires returns)
