@@ -9,8 +9,9 @@ use borrow.Author.Tests.{leb-true, leb-false}
 use Rattle.fraction.specs.Rounding.{U, roundℕ}
 use Rattle.method.specs.Units.{rateUnit}
 use Rattle.method.proofs.Outcome.{split}
-use Rattle.method.proofs.Quotients.{ceilDiv-≤, down-below-up}
+use Rattle.method.proofs.Quotients.{down-below-up}
 use Rattle.zero_rates.specs.Rates.{compound}
+use Rattle.zero_rates.proofs.Compounding.{round-≤}
 use Rattle.rate_search.specs.Search.{cap, growthCut}
 
 -- ---- a rounded quotient
@@ -29,10 +30,6 @@ split-product up g m = ap (λ (k : ℕ). roundℕ up k rateUnit) parts ∙ round
 
     parts : g * m ≡ g / rateUnit * m * rateUnit + g % rateUnit * m
     parts = ap (λ (k : ℕ). k * m) (sym (div-add-mod' g rateUnit)) ∙ spread (g / rateUnit) (g % rateUnit)
-
-pub round-≤ : (up : Bool) {a k : ℕ} → a ≤ k * rateUnit → roundℕ up a rateUnit ≤ k
-round-≤ true h = ceilDiv-≤ (lit< tt) h
-round-≤ false {a} h = le-trans (down-below-up .below {a = a} {b = a} rateUnit (le-refl a)) (ceilDiv-≤ (lit< tt) h)
 
 round-≥ : (up : Bool) {a k : ℕ} → k * rateUnit ≤ a → k ≤ roundℕ up a rateUnit
 round-≥ false h = le-div-iff-mul-le (lit< tt) .1 h

@@ -1,18 +1,18 @@
 -- Where the growth passes the bound, by the growths that are cut; and that the definitions' halvings stop there.
 use mathlib.Core.Path.{_≡_, sym, ap, _∙_}
-use mathlib.Core.Bool.{Bool, true, false, not}
+use mathlib.Core.Bool.{Bool, true, false, not, _&&_, _||_}
 use Prim.Native.Nat.{ℕ, _+_, _*_, _-_, _/_, _≤_, _<_}
 use native.Mathlib.Nat.{le-div-iff-mul-le}
 use native.Mathlib.Omega.{arith}
-use lib.Dec.{leb}
-use borrow.Author.Tests.{leb-true, leb-false, le-leb, lt-leb, not-true, not-false}
+use lib.Dec.{leb, ltb}
+use borrow.Author.Tests.{leb-true, leb-false, le-leb, lt-leb, le-ltb, lt-ltb, not-true, not-false}
 use Rattle.method.specs.Units.{Pair, pair}
 use Rattle.method.specs.Grounds.{noHighRate, refused}
-use Rattle.method.proofs.Outcome.{split}
+use Rattle.method.proofs.Outcome.{split, both-true}
 use Rattle.method.proofs.HalvingLaws.{halve-is}
 use Rattle.zero_rates.specs.Rates.{compound, staysBelow, reaches, lowMultiplier, highMultiplier, greatestMultiplier, zeroRates}
 use Rattle.zero_rates.proofs.Search.{stays-falls, misses-falls, reaches-rises}
-use Rattle.rate_search.specs.Search.{unitSquared, growthCut, within, Turns}
+use Rattle.rate_search.specs.Search.{unitSquared, growthCut, within, Between, confirmed, Turns}
 
 -- ---- what is cut is held against a bound like what is not
 
@@ -25,6 +25,36 @@ module _ (up : Bool) (m t : ℕ) {bound g : ℕ} (small : bound ≤ unitSquared)
 
   pub cut-test : leb g bound ≡ within up t bound m
   cut-test = split (leb g bound) (λ q. q ∙ sym (cut-within (leb-true g bound q))) (λ q. q ∙ sym (cut-past (leb-false g bound q)))
+
+  pub cut-beyond : ltb bound g ≡ not (within up t bound m)
+  cut-beyond =
+      split (leb g bound)
+      (λ q. let h = leb-true g bound q in le-ltb bound g h ∙ ap not (sym (cut-within h)))
+      (λ q. let h = leb-false g bound q in lt-ltb bound g h ∙ ap not (sym (cut-past h)))
+
+-- ---- a candidate that the test confirms
+
+module _ (up : Bool) (t bound hi m : ℕ) where
+  abbrev here : Bool
+  here = within up t bound m
+
+  abbrev next : Bool
+  next = within up t bound (m + 1)
+
+  pub confirmed-not : here ≡ false → false ≡ confirmed up t bound hi m
+  confirmed-not e = sym (ap (λ (b : Bool). b && (leb hi (m + 1) || not next)) e)
+
+  pub confirmed-by : {r : Bool} → here ≡ true → m + 1 < hi → r ≡ not next → r ≡ confirmed up t bound hi m
+  confirmed-by e h n = n ∙ sym (rw (e, lt-leb hi (m + 1) h))
+
+  pub confirmed-last : here ≡ true → hi ≤ m + 1 → true ≡ confirmed up t bound hi m
+  confirmed-last e h = sym (rw (e, le-leb hi (m + 1) h))
+
+  pub turns-at : (lo : ℕ) → Between lo hi m → confirmed up t bound hi m ≡ true → Turns up t bound lo hi m
+  turns-at lo between e =
+      let parts = both-true here _ e in
+      let past : m + 1 < hi → not next ≡ true = λ h. sym (ap (λ (b : Bool). b || not next) (lt-leb hi (m + 1) h)) ∙ parts .1 in
+      record { between = between; here = λ h. parts .0; next = λ h. not-true next (past h) }
 
 -- ---- a product against U × U is a factor against a quotient
 

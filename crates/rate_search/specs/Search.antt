@@ -1,6 +1,6 @@
 -- Where the growth over the years comes to pass a bound, which is where the halvings of the definitions stop.
 use mathlib.Core.Path.{_≡_}
-use mathlib.Core.Bool.{Bool, true, false}
+use mathlib.Core.Bool.{Bool, true, false, not, _&&_, _||_}
 use Prim.Native.Nat.{ℕ, _+_, _≤_, _<_, min}
 use lib.Dec.{leb}
 use lib.IntN.{pos}
@@ -31,9 +31,8 @@ pub record Between (lo hi m : ℕ) : Type 0 where
   pub below : m < hi
 
 -- within the bound at m; past it at the next, unless that is the end
-pub record Confirmed (up : Bool) (t bound hi m : ℕ) : Type 0 where
-  pub here : within up t bound m ≡ true
-  pub next : m + 1 < hi → within up t bound (m + 1) ≡ false
+abbrev pub confirmed : Bool → ℕ → ℕ → ℕ → ℕ → Bool
+confirmed up t bound hi m = within up t bound m && (leb hi (m + 1) || not (within up t bound (m + 1)))
 
 -- the same between two ends, of which the first need not be within
 pub record Turns (up : Bool) (t bound lo hi m : ℕ) : Type 0 where

@@ -14,7 +14,7 @@ ghost use Rattle.method.specs.Grounds.{noHighRate, refused};
 ghost use Rattle.zero_rates.specs.Rates.{lowMultiplier, rateOf, zeroRates};
 ghost use Rattle.grounds.specs.Verdicts.{asOutcome, resultOr};
 ghost use Rattle.rounding.specs.Pairs.{asSignedPair};
-ghost use Rattle.rate_search.specs.Search.{unitSquared, cap, GrowthsOf, within, Confirmed, Turns, Halved, noRates};
+ghost use Rattle.rate_search.specs.Search.{unitSquared, cap, GrowthsOf, within, confirmed, Turns, Halved, noRates};
 
 const UNIT: u64 = 1_000_000_000;
 
@@ -125,7 +125,7 @@ fn halve(lo: u64, hi: u64, years: u64, bound: u64, up: bool, exact: bool) -> u64
 // Whether the growth comes to pass the bound right after m.
 fn turns(m: u64, hi: u64, years: u64, bound: u64, up: bool) -> bool
     requires { ⌜ (m < hi) × (hi ≤ 200_001) × (bound ≤ unitSquared) ⌝ }
-    ensures { λ r. ⌜ (r ≡ true → Confirmed up years bound hi m) ⌝ }
+    ensures { λ r. ⌜ r ≡ confirmed up years bound hi m ⌝ }
 {
     let g = grow(m, years, up);
     if bound < g.here {

@@ -39,7 +39,7 @@ rate-mono m k h =
     rw (from-par m start, from-par k high) (leZ-yes (le→leb (m - 100_000) (k - 100_000) (omega arith)))))
 
 pub rate-in-range : (m : ℕ) → leastMultiplier ≤ m → m ≤ greatestMultiplier → InRange (rateOf m)
-rate-in-range m l u = record { from = rate-mono 50_000 m l; to = rate-mono m 200_000 u }
+rate-in-range m l u = record { from = rate-mono 50_000 m (omega (arith, l)); to = rate-mono m 200_000 (omega (arith, u)) }
 
 -- ---- the multiplier of a rate
 

@@ -1,17 +1,15 @@
 -- The multipliers that the halving comes to: the largest that stays below, the smallest that reaches.
 use mathlib.Core.Path.{_≡_, sym, ap, _∙_}
 use mathlib.Core.Bool.{Bool, true, false, not}
-use Prim.Native.Nat.{ℕ, zero, suc, _≤_, _<_}
+use Prim.Native.Nat.{ℕ, zero, suc, _-_, _≤_}
 use native.Mathlib.Nat.{mul-le-mul, mul-le-mul-left, mul-le-mul-right, le-trans}
 use native.Mathlib.Omega.{arith}
-use lib.Dec.{lit<}
 use borrow.Author.Tests.{leb-true, le-leb, not-true, not-false}
-use Rattle.method.specs.Units.{rateUnit}
 use Rattle.method.proofs.Outcome.{split}
-use Rattle.method.proofs.Quotients.{ceilDiv-≤}
 use Rattle.method.proofs.HalvingLaws.{Falls, halve-within, halve-low-passes, halve-high-fails, ends-met, halve-last, halve-first}
-use Rattle.zero_rates.specs.Rates.{compound, staysBelow, reaches, lowMultiplier, highMultiplier, leastMultiplier, greatestMultiplier}
-use Rattle.zero_rates.proofs.Compounding.{compound-mono}
+use Rattle.zero_rates.specs.Rates.{compound, staysBelow, reaches, lowMultiplier, highMultiplier}
+use Rattle.zero_rates.specs.Rates.{leastMultiplier, greatestMultiplier, pastRange, beforeRange}
+use Rattle.zero_rates.proofs.Compounding.{round-≤, compound-mono}
 
 -- ---- each test holds on one side of somewhere
 
@@ -30,17 +28,17 @@ misses-falls t low a b h fails =
     both : false ≡ true → ⊥
     both e = let z : _≡_ {A = ℕ} 0 1 = cc in omega arith
 
--- ---- the least multiplier halves, so that what it grows to stays below, however many years
+-- ---- the least multiplier halves, so that what it grows to stays below, however many years and whichever way it is rounded
 
-halves : (t : ℕ) → compound true leastMultiplier (suc t) ≤ 500_000_000
+halves : (up : Bool) (t : ℕ) → compound up leastMultiplier (suc t) ≤ 500_000_000
 unfolding compound
-halves zero = omega arith
-halves (suc t) = ceilDiv-≤ {m = 500_000_000} {d = rateUnit} (lit< tt) (omega (arith, mul-le-mul-right leastMultiplier (halves t)))
+halves up zero = round-≤ up {k = 500_000_000} (omega arith)
+halves up (suc t) = round-≤ up {k = 500_000_000} (omega (arith, mul-le-mul-right leastMultiplier (halves up t)))
 
 pub least-stays : (t high : ℕ) → 1 ≤ t → high ≤ 2_000_000_000 → staysBelow t high leastMultiplier ≡ true
 unfolding staysBelow
 least-stays zero high h k = absurd (omega arith)
-least-stays (suc t) high h k = le-leb _ _ (mul-le-mul k (halves t))
+least-stays (suc t) high h k = le-leb _ _ (mul-le-mul k (halves _ t))
 
 -- ---- the low multiplier
 
@@ -55,13 +53,13 @@ unfolding lowMultiplier
 low-found t high h k =
     let test = staysBelow t high in
     let falls = stays-falls t high in
-    let within = halve-within test 150_001 50_000 200_001 (omega arith) in
-    let met = ends-met test falls 50_000 200_001 (omega arith) in
+    let within = halve-within test (pastRange - leastMultiplier) leastMultiplier pastRange (omega arith) in
+    let met = ends-met test falls leastMultiplier pastRange (omega arith) in
     record {
-      least = within .above;
+      least = omega arith;
       greatest = omega arith;
-      stays = halve-low-passes test 150_001 50_000 200_001 (least-stays t high h k);
-      none-above = λ k below passes. halve-last test falls 50_000 200_001 (omega arith) k (omega arith) passes;
+      stays = halve-low-passes test (pastRange - leastMultiplier) leastMultiplier pastRange (least-stays t high h k);
+      none-above = λ k below passes. halve-last test falls leastMultiplier pastRange (omega arith) k (omega arith) passes;
     }
 
 -- ---- the high multiplier, where the greatest reaches
@@ -77,11 +75,11 @@ unfolding highMultiplier
 high-found t low h =
     let fails : ℕ → Bool = λ m. not (reaches t low m) in
     let falls = misses-falls t low in
-    let within = halve-within fails 150_001 49_999 200_000 (omega arith) in
-    let met = ends-met fails falls 49_999 200_000 (omega arith) in
+    let within = halve-within fails (greatestMultiplier - beforeRange) beforeRange greatestMultiplier (omega arith) in
+    let met = ends-met fails falls beforeRange greatestMultiplier (omega arith) in
     record {
       least = omega arith;
-      greatest = within .below;
-      reached = not-false _ (halve-high-fails fails 150_001 49_999 200_000 (ap not h));
-      none-below = λ k above passes. halve-first fails falls 49_999 200_000 (omega arith) k (omega arith) (ap not passes);
+      greatest = omega arith;
+      reached = not-false _ (halve-high-fails fails (greatestMultiplier - beforeRange) beforeRange greatestMultiplier (ap not h));
+      none-below = λ k above passes. halve-first fails falls beforeRange greatestMultiplier (omega arith) k (omega arith) (ap not passes);
     }

@@ -33,18 +33,22 @@ staysBelow t high m = leb (high * compound true m t) (U * U)
 unfoldable pub reaches : ℕ → ℕ → ℕ → Bool
 reaches t low m = leb (U * U) (low * compound false m t)
 
--- ---- the rates, by the halving of the gaps; the end that stands for "none passes" is one outside the range, and is not tried
+-- ---- the rates, by the halving of the gaps
+
+-- one outside the range at either end: it stands for "none passes", and is not tried
+abbrev pub pastRange : ℕ
+pastRange = suc greatestMultiplier
+
+abbrev pub beforeRange : ℕ
+beforeRange = leastMultiplier - 1
 
 -- the largest that stays below
 unfoldable pub lowMultiplier : ℕ → ℕ → ℕ
-lowMultiplier t high =
-    let past = suc greatestMultiplier in halve (staysBelow t high) (past - leastMultiplier) leastMultiplier past .low
+lowMultiplier t high = halve (staysBelow t high) (pastRange - leastMultiplier) leastMultiplier pastRange .low
 
 -- the smallest that reaches
 unfoldable pub highMultiplier : ℕ → ℕ → ℕ
-highMultiplier t low =
-    let before = leastMultiplier - 1 in
-    halve (λ m. not (reaches t low m)) (greatestMultiplier - before) before greatestMultiplier .high
+highMultiplier t low = halve (λ m. not (reaches t low m)) (greatestMultiplier - beforeRange) beforeRange greatestMultiplier .high
 
 abbrev pub ratesOf : ℕ → Pair → SignedPair
 ratesOf t p = signedPair (rateOf (lowMultiplier t (p .high))) (rateOf (highMultiplier t (p .low)))

@@ -1,6 +1,7 @@
 -- Either candidate, where the tests confirm it; else the exact halving.
-use mathlib.Core.Path.{refl}
+use mathlib.Core.Path.{refl, sym, _∙_}
 use borrow.Author.Needs.{needs}
+use Rattle.rate_search.proofs.Turning.{turns-at}
 use Rattle.rate_search.proofs.turning_point.Statement.{statement}
 use Rattle.rate_search.proofs.turning_point.Tie as tie
 
@@ -9,8 +10,8 @@ turns-requires c κs = search needs
 
 returns : tie.Need-returns
 returns c =
-    let confirmed = c .before .turns .ensures (c .if3 .taken) in
-    record { between = record { from = search needs; below = search needs }; here = λ h. confirmed .here; next = confirmed .next }
+    let told = sym (c .before .turns .ensures) ∙ c .if3 .taken in
+    turns-at _ _ _ _ _ _ (record { from = search needs; below = search needs }) told
 
 halve-requires : tie.Need-halve-requires
 halve-requires c κs = search needs
@@ -20,8 +21,8 @@ turns-requires-2 c κs = search needs
 
 returns-2 : tie.Need-returns-2
 returns-2 c =
-    let confirmed = c .before .turns2 .ensures (c .if4 .taken) in
-    record { between = c .before .before .halve .ensures .between; here = λ h. confirmed .here; next = confirmed .next }
+    let told = sym (c .before .turns2 .ensures) ∙ c .if4 .taken in
+    turns-at _ _ _ _ _ _ (c .before .before .halve .ensures .between) told
 
 halve-requires-2 : tie.Need-halve-requires-2
 halve-requires-2 c κs = search needs

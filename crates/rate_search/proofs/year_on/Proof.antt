@@ -3,8 +3,9 @@ use mathlib.Core.Path.{sym, ap, _∙_}
 use Prim.Native.Nat.{ℕ, _+_, _*_, _/_, _%_, _≤_, _<_, min}
 use native.Mathlib.Nat.{mul-le-mul, min-eq-left}
 use native.Mathlib.Omega.{arith}
+use Rattle.zero_rates.proofs.Compounding.{round-≤}
 use Rattle.rate_search.specs.Search.{cap}
-use Rattle.rate_search.proofs.Growing.{split-product, round-≤}
+use Rattle.rate_search.proofs.Growing.{split-product}
 use borrow.Author.Needs.{needs}
 use Rattle.rate_search.proofs.year_on.Statement.{statement}
 use Rattle.rate_search.proofs.year_on.Tie as tie

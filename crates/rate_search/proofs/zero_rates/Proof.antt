@@ -2,7 +2,7 @@
 use mathlib.Core.Path.{_≡_, sym, ap, ap₂, _∙_}
 use mathlib.Core.Bool.{false}
 use Prim.Native.Nat.{ℕ, _-_, _/_, _<_}
-use native.Mathlib.Nat.{div-le-self}
+use native.Mathlib.Nat.{div-le-self, le-trans}
 use native.Mathlib.Omega.{arith}
 use Rattle.method.specs.Units.{pair, SignedPair, signedPair}
 use Rattle.method.specs.Grounds.{done}
@@ -31,7 +31,7 @@ div-turning-point : tie.Need-div-turning-point
 div-turning-point c = search needs
 
 turning-point-requires : tie.Need-turning-point-requires
-turning-point-requires c κs = (omega arith, omega arith, omega (arith, div-le-self (unitSquared - 1) (c .before .args .low)))
+turning-point-requires c κs = (omega arith, omega arith, le-trans (div-le-self _ (c .before .args .low)) (omega arith))
 
 no-rates-requires-2 : tie.Need-no-rates-requires-2
 no-rates-requires-2 c κs = search needs
