@@ -54,9 +54,9 @@ vacant has c e = rw (not-so has e)
 
 -- ---- what was asked of the curve: w is what a match found the verdict to be
 
-pub asked : (has : Bool) (c : curve.Curve) (told limit : ℕ) {v w : Verdict} → Opens has (c .month) told limit v → v ≡ w →
+pub asked : (has : Bool) (c : curve.Curve) (told limit : ℕ) {month : ℕ} {v w : Verdict} → Opens has month told limit v → c .month ≡ month → v ≡ w →
     openCurve (asStanding has c) told limit ≡ asOutcome w (asCurve c)
-asked has c told limit opens e = at-verdict (asCurve c) e (opens c refl)
+asked has c told limit opens m e = at-verdict (asCurve c) e (opens c m)
 
 -- ---- post
 

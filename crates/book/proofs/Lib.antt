@@ -1,2 +1,1 @@
-pub mod Overwriting
 pub mod Booking

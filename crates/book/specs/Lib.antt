@@ -1,3 +1,2 @@
 pub mod Views
 pub mod Steps
-pub mod Written

@@ -1,5 +1,6 @@
--- The parts of a post and of a look-up that the functions between cite.
+-- The parts of a post, a look-up and a page that the functions between cite.
 use mathlib.Core.Bool.{Bool}
+use mathlib.Core.List.{List}
 use mathlib.Core.Path.{_≡_}
 use Prim.Native.Nat.{ℕ}
 use lib.Dec.{leb}
@@ -8,7 +9,7 @@ use Rattle.method.specs.Sheet.{Numbers}
 use Rattle.method.specs.Curve.{Curve, curveOf}
 use Rattle.zero_rates.specs.Rates.{zeroRates}
 use Rattle.ledger.specs.Answers.{Finding, finding}
-use Rattle.ledger.specs.Book.{Book, Booked, booked, notBefore, withCurve, age, openCurve, bandAt}
+use Rattle.ledger.specs.Book.{Book, Booked, booked, notBefore, withCurve, age, openCurve, bandAt, Paged, pageIn}
 use Rattle.grounds.specs.declared.Verdict.{Verdict}
 use Rattle.grounds.specs.Verdicts.{asOutcome}
 use Rattle.curve.specs.declared.Curve as code
@@ -34,3 +35,8 @@ abbrev pub foundAt : Curve → ℕ → ℕ → Outcome Finding
 foundAt c told y = do
   rates ← zeroRates y (bandAt c y)
   done (finding (bandAt c y) rates (c .month) (age told c))
+
+-- the page of a curve or none, for which its month and its bands are all that counts
+abbrev pub Pages : Bool → ℕ → List ℕ → List ℕ → ℕ → ℕ → List ℕ → Paged → Type 0
+Pages has month lows highs told limit lent p = (c : code.Curve) →
+    c .month ≡ month → c .years .lows ≡ lows → c .years .highs ≡ highs → p ≡ pageIn (asStanding has c) told limit lent

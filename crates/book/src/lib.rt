@@ -1,7 +1,5 @@
 // The dated curve book: its age limit, the told month, and the curve of the last accepted sheet. No other crate can build a book or
 // read one, so each came from a list of calls that began with `fresh`.
-mod page_bytes;
-
 use curve::Curve;
 use grounds::Ground;
 use grounds::Verdict;
@@ -10,12 +8,13 @@ ghost use mathlib.Core.Path.{_≡_};
 ghost use Prim.Native.Nat.{_-_, _≤_};
 ghost use Rattle.method.specs.Grounds.{done};
 ghost use Rattle.method.specs.Ranges.{NumbersInRange};
-ghost use Rattle.ledger.specs.Book.{fresh, notBefore, withTold, post, turn, lookIn, lookUp, pageIn, page};
+ghost use Rattle.ledger.specs.Book.{fresh, notBefore, withTold, post, turn, lookIn, lookUp, page};
+ghost use Rattle.page_writer.specs.Written.{Bands};
 ghost use Rattle.grounds.specs.Verdicts.{asOutcome, resultOr};
 ghost use Rattle.sheet.specs.Views.{asNumbers};
 ghost use Rattle.curve.specs.Curves.{asCurve};
 ghost use Rattle.book.specs.Views.{asStanding, asBook, asBooked, asFinding, noFinding, asPaged};
-ghost use Rattle.book.specs.Steps.{posted, afterReading, Opens, foundAt};
+ghost use Rattle.book.specs.Steps.{posted, afterReading, Opens, foundAt, Pages};
 
 // No curve can be older, as no month after 2,399 can be told.
 pub const LARGEST_AGE_LIMIT: u64 = 2_399;
@@ -270,25 +269,40 @@ pub fn look_up(book: Book, year: u64) -> Looked
 
 // ---- page
 
-// Of any curve, or none.
-fn page_in(has: bool, curve: Curve, told: u64, age_limit: u64, out: &mut [u8]) -> Verdict
-    ensures { λ r. ⌜ asPaged r (now (out .exit)) ≡ pageIn (asStanding has curve) told «age_limit» (now (out .entry)) ⌝ }
+// Of any curve, or none, whose bands are lent.
+fn page_in<'a>(
+    has: bool,
+    month: u64,
+    lows: &'a [u64],
+    highs: &'a [u64],
+    told: u64,
+    age_limit: u64,
+    out: &mut [u8],
+) -> Verdict
+    requires { ⌜ Bands (now lows) (now highs) ⌝ }
+    ensures { λ r. ⌜ Pages has month (now (lows .entry)) (now (highs .entry)) told «age_limit» (now (out .entry)) (asPaged r (now (out .exit))) ⌝ }
 {
-    let verdict = opens(has, curve.month, told, age_limit);
+    let verdict = opens(has, month, told, age_limit);
     let Verdict::Passed = verdict else {
         return verdict;
     };
     if out.len() < 1_505 {
         return Verdict::Refused(Ground::BufferTooShort);
     }
-    let years = curve.years;
-    page_bytes::write(curve.month, age(told, curve.month), years, out);
+    page_writer::write_to(month, age(told, month), lows, highs, 150, out);
     Verdict::Passed
 }
 
 pub fn page(book: Book, out: &mut [u8]) -> Verdict
     ensures { λ r. ⌜ asPaged r (now (out .exit)) ≡ page (asBook book) (now (out .entry)) ⌝ }
 {
-    let curve = book.curve;
-    page_in(book.has, curve, book.told, book.age_limit, out)
+    page_in(
+        book.has,
+        book.curve.month,
+        &book.curve.years.lows,
+        &book.curve.years.highs,
+        book.told,
+        book.age_limit,
+        out,
+    )
 }

@@ -1,15 +1,31 @@
--- What is put into bytes is read back: a number, and an integer in two's complement.
+-- Numbers in bytes: one spelling is the other; and what is put into bytes is read back, a number, and an integer in two's complement.
 use mathlib.Core.Path.{_≡_, refl, ap, _∙_}
 use mathlib.Core.Bool.{cond}
 use mathlib.Core.List.{List, [], _∷_, _++_}
 use Prim.Native.Nat.{ℕ, zero, suc, _+_, _*_, _-_, _/_, _%_, _^_, _≤_, _<_}
-use native.Mathlib.Nat.{pow-suc, div-lt-iff-lt-mul}
+use native.Mathlib.Nat.{pow-suc, div-lt-iff-lt-mul, div-div-eq-div-mul}
 use native.Mathlib.Omega.{arith}
 use lib.Dec.{leb, leb→le, lit<}
 use lib.IntN.{ℤ, pos, negsuc, _-ℤ_}
 use lib.Signed.{_≤ℤ_}
 use borrow.Author.Tests.{le-leb, lt-leb, lt-ltb}
-use Rattle.method.specs.Bytes.{bigEndian, inBytes, twosComplement32}
+use Rattle.method.specs.Bytes.{bigEndian, bytes2, bytes4, inBytes, twosComplement32}
+
+-- ---- of one number the same bytes, whichever way they are spelled
+
+pub in-one : (n : ℕ) → n < 256 → inBytes 1 n ≡ n ∷ []
+unfolding inBytes
+in-one n h = ap (λ (b : ℕ). b ∷ []) (omega arith)
+
+pub in-two : (n : ℕ) → inBytes 2 n ≡ bytes2 n
+unfolding inBytes
+in-two n = refl
+
+pub in-four : (n : ℕ) → inBytes 4 n ≡ bytes4 n
+unfolding inBytes
+in-four n = rw (div-div-eq-div-mul n 256 256, div-div-eq-div-mul n 65_536 256)
+
+-- ---- read back
 
 read-last : (n : ℕ) (bs : List ℕ) (b : ℕ) → bigEndian n (bs ++ b ∷ []) ≡ bigEndian n bs * 256 + b
 unfolding bigEndian

@@ -47,7 +47,7 @@ returns-3 c =
     let at-year = at-opens .before in
     let a = at-year .before .before .args in
     let told = c .before .enum-told2 .given .1 in
-    let opened = asked (a .has) (a .curve) (a .told) (a .age-limit) (at-opens .opens .ensures) told in
+    let opened = asked (a .has) (a .curve) (a .told) (a .age-limit) (at-opens .opens .ensures) refl told in
     let closed = look-closed _ _ _ _ opened (at-year .before .if1 .left) (at-year .if2 .left) in
     refused-alone (c .not-found3 .ensures .0) told (c .not-found3 .ensures .1) closed
 
@@ -59,7 +59,7 @@ returns-4 c =
     let at-opens = c .before .before .before in
     let at-year = at-opens .before in
     let a = at-year .before .before .args in
-    let opened = asked (a .has) (a .curve) (a .told) (a .age-limit) (at-opens .opens .ensures) (c .before .enum-told .given .1) in
+    let opened = asked (a .has) (a .curve) (a .told) (a .age-limit) (at-opens .opens .ensures) refl (c .before .enum-told .given .1) in
     let found = c .found .ensures in
     let shown = look-open _ _ _ _ (asCurve (a .curve)) opened (at-year .before .if1 .left) (at-year .if2 .left) in
     (found .0 ∙ sym shown, found .1 ∙ ap (resultOr noFinding) (sym shown))
