@@ -2,21 +2,16 @@
 
 use crate::curve::{Curve, YEARS};
 use crate::enclosure::Enclosure;
+use crate::page::Page;
 use crate::rates::ZeroRates;
 use crate::refusal::Refusal;
 use crate::sheet::{Sheet, LAST_MONTH};
 
-/// Bytes in a page.
-pub const PAGE_LENGTH: usize = 1_505;
+pub use crate::page::PAGE_LENGTH;
 
 /// The largest age limit, in months. No curve gets older: sheets' months start at 0 and the
 /// last month that can be told is 2,399.
 pub const LARGEST_AGE_LIMIT: u64 = 2_399;
-
-const PAGE_HEAD: u8 = 0x48;
-const PAGE_YEAR: u8 = 0x59;
-const HEAD_LENGTH: usize = 5;
-const YEAR_LENGTH: usize = 10;
 
 /// A curve and the month of its sheet.
 #[derive(Clone, Debug, PartialEq, Eq)]
@@ -124,16 +119,17 @@ impl Book {
     /// or refuses on the first of grounds 14, 16 and 15, in this order, and leaves the
     /// buffer unchanged. It tells no rates, so that a year without them keeps its pair.
     pub fn page(&self, buffer: &mut [u8]) -> Result<(), Refusal> {
+        self.shown_page()?.write(buffer, |_, _| {})
+    }
+
+    /// The page of the curve, to be written, or the first of grounds 14 and 16.
+    pub fn shown_page(&self) -> Result<Page<impl Fn(usize) -> Enclosure + '_>, Refusal> {
         let (standing, age) = self.shown()?;
-        let page = buffer.get_mut(..PAGE_LENGTH).ok_or(Refusal::plain(15))?;
-        let (head, years) = page.split_at_mut(HEAD_LENGTH);
-        head[0] = PAGE_HEAD;
-        head[1..3].copy_from_slice(&standing.month.to_be_bytes());
-        head[3..5].copy_from_slice(&age.to_be_bytes());
-        for (i, record) in years.chunks_exact_mut(YEAR_LENGTH).enumerate() {
-            write_year(record, i + 1, standing.curve.factor(i + 1));
-        }
-        Ok(())
+        Ok(Page {
+            month: standing.month,
+            age,
+            factor: |year| standing.curve.factor(year),
+        })
     }
 
     /// The age of the curve that the book holds, if it holds one, shown or too old.
@@ -156,18 +152,4 @@ impl Book {
     fn age(&self, standing: &Standing) -> u16 {
         self.told_month - standing.month
     }
-}
-
-fn write_year(record: &mut [u8], year: usize, factor: Enclosure) {
-    record[0] = PAGE_YEAR;
-    record[1] = u8::try_from(year).expect("at most 150");
-    record[2..6].copy_from_slice(&four_bytes(factor.low));
-    record[6..10].copy_from_slice(&four_bytes(factor.high));
-}
-
-/// Ground 8 keeps every factor at or below 2 U, which fits in 32 bits.
-fn four_bytes(value: i128) -> [u8; 4] {
-    u32::try_from(value)
-        .expect("a factor from 0 to 2 U")
-        .to_be_bytes()
 }

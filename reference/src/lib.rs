@@ -14,6 +14,7 @@ pub mod every_ground;
 pub mod extrapolation;
 pub mod interval;
 pub mod journal;
+pub mod page;
 pub mod questions;
 pub mod rates;
 pub mod refusal;
