@@ -9,20 +9,25 @@ use reference::desk::LOOK_UP;
 use reference::journal::{answer_on, book_after};
 use reference::questions::curve_age;
 use reference::refusal::Refusal;
+use reference::streams::Random;
 
 use crate::{answer_after, look_after, page_after};
 
 /// Bytes in the reply to a look-up.
 pub const LOOK_UP_LENGTH: usize = 28;
 
-/// What a lent buffer holds, so that each byte written or left is seen.
-const LENT: u8 = 7;
-
 /// The ground of a curve whose age is above the limit.
 const TOO_OLD: u64 = 16;
 
 /// The ground of a year that has no high rate.
 const NO_HIGH_RATE: u64 = 17;
+
+/// What a lent buffer of this length holds: seeded bytes, among which those that were written
+/// or moved from elsewhere in the buffer are seen.
+pub fn lent(length: usize) -> Vec<u8> {
+    let mut random = Random::new(length as u64);
+    (0..length).map(|_| random.below(256) as u8).collect()
+}
 
 /// A question asked after a journal; lengths are those of the lent buffer.
 pub enum Question {
@@ -155,7 +160,7 @@ impl<'a> Case<'a> {
 
     /// The answer that both give, or how they differ in it or in the buffer they leave.
     pub fn ask(&self, question: &Question) -> Result<u64, String> {
-        let lent = vec![LENT; question.length()];
+        let lent = lent(question.length());
         let (mut found, mut expected) = (lent.clone(), lent);
         let answer = self.library(question, &mut found);
         let expected_answer = self.second(question, &mut expected);

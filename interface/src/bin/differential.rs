@@ -17,8 +17,11 @@ use reference::streams::Random;
 /// Buffers for look-ups, whose reply has 28 bytes.
 const LOOK_UP_BUFFERS: [usize; 6] = [0, 12, 27, 28, 29, 60];
 
-/// Buffers for pages, which have 1,505 bytes.
-const PAGE_BUFFERS: [usize; 5] = [0, 1_504, 1_505, 1_506, 2_000];
+/// Buffers for pages, which have 1,505 bytes; in those from 1,515 on one more record would fit,
+/// in the last two another page.
+const PAGE_BUFFERS: [usize; 12] = [
+    0, 1_504, 1_505, 1_506, 1_507, 1_510, 1_514, 1_515, 1_600, 2_000, 3_010, 4_096,
+];
 
 /// Posts between two lines that tell how far the run is.
 const PROGRESS: u64 = 20_000;
