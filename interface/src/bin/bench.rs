@@ -1,11 +1,11 @@
 //! Times posts and a page through the C interface against the second implementation, on
 //! the same journal, in turn, in one run on one machine: bench [POSTS]. Then the same posts
-//! with an X, whose weights are worked anew in each.
+//! with an X, whose weights are worked anew in each. Then pages of one post's curve.
 
 use std::time::{Duration, Instant};
 
 use interface::page_after;
-use reference::book::LARGEST_AGE_LIMIT;
+use reference::book::{LARGEST_AGE_LIMIT, PAGE_LENGTH};
 use reference::journal::book_after;
 use reference::streams::accepted_posts;
 
@@ -13,20 +13,24 @@ use reference::streams::accepted_posts;
 const RUNS: usize = 7;
 const SEED: u64 = 7;
 
+/// Pages timed, each by itself.
+const PAGES: usize = 50_000;
+
 fn main() {
     let posts = std::env::args()
         .nth(1)
         .and_then(|word| word.parse().ok())
         .unwrap_or(20_000);
     for (sheets, with_phase_in) in [("without X", false), ("with X", true)] {
-        time(sheets, posts, &accepted_posts(SEED, posts, with_phase_in));
+        time_posts(sheets, posts, &accepted_posts(SEED, posts, with_phase_in));
     }
+    time_pages(&accepted_posts(SEED, 1, false));
 }
 
-fn time(sheets: &str, posts: usize, journal: &[u8]) {
+fn time_posts(sheets: &str, posts: usize, journal: &[u8]) {
     let (mut proved, mut plain) = (Duration::MAX, Duration::MAX);
     for _ in 0..RUNS {
-        let (mut page, mut expected) = (vec![0; 1_505], vec![0; 1_505]);
+        let (mut page, mut expected) = (vec![0; PAGE_LENGTH], vec![0; PAGE_LENGTH]);
         let start = Instant::now();
         assert_eq!(page_after(LARGEST_AGE_LIMIT, journal, &mut page), 0);
         proved = proved.min(start.elapsed());
@@ -45,4 +49,39 @@ fn time(sheets: &str, posts: usize, journal: &[u8]) {
         rate(plain),
         proved.as_secs_f64() / plain.as_secs_f64()
     );
+}
+
+/// A call replays its journal before it pages, so the journal's time is taken off: that of the
+/// same call with one byte too few, which is refused when the page is about to be written. The
+/// second implementation's book is there already.
+fn time_pages(journal: &[u8]) {
+    let book = book_after(LARGEST_AGE_LIMIT, journal);
+    let (mut whole, mut refused, mut plain) = (Vec::new(), Vec::new(), Vec::new());
+    let mut page = vec![0; PAGE_LENGTH];
+    for _ in 0..PAGES {
+        whole.push(time(|| page_after(LARGEST_AGE_LIMIT, journal, &mut page)));
+        let short = &mut page[1..];
+        refused.push(time(|| page_after(LARGEST_AGE_LIMIT, journal, short)));
+        plain.push(time(|| book.page(&mut page)));
+    }
+    let (whole, refused, plain) = (usual(whole), usual(refused), usual(plain));
+    println!(
+        "a page after one post: proved {whole:.2} µs with the post, {refused:.2} µs refused for its buffer, so {:.2} µs ({:.0} pages a second); plain Rust {plain:.2} µs ({:.0} pages a second)",
+        whole - refused,
+        1e6 / (whole - refused),
+        1e6 / plain
+    );
+}
+
+fn time<A>(call: impl FnOnce() -> A) -> Duration {
+    let start = Instant::now();
+    std::hint::black_box(call());
+    start.elapsed()
+}
+
+/// In microseconds, the time that a quarter of the calls stay below: the fastest ones are luck,
+/// the slow ones were disturbed.
+fn usual(mut times: Vec<Duration>) -> f64 {
+    times.sort();
+    times[times.len() / 4].as_secs_f64() * 1e6
 }
