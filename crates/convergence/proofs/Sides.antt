@@ -3,7 +3,7 @@ use mathlib.Core.Path.{_≡_, refl, sym, ap}
 use mathlib.Core.Bool.{Bool, true, false, not, false≢true}
 use mathlib.Core.List.{List, [], _∷_, map, zipWith}
 use Prim.Native.Nat.{ℕ, zero, suc, _+_, _*_, _-_, _≤_, _<_}
-use native.Mathlib.Nat.{le-refl, le-trans, mul-le-mul-left}
+use native.Mathlib.Nat.{le-trans, mul-le-mul-left}
 use native.Mathlib.Omega.{arith}
 use borrow.Author.Tests.{le-leb, lt-leb}
 use lib.IntN.{ℤ, pos, negsuc}
@@ -17,7 +17,7 @@ use Rattle.method.specs.True.{convergence}
 use Rattle.method.proofs.Zips.{zip-at}
 use Rattle.method.proofs.Forward.{Weighs, weight-ordered}
 use Rattle.method.proofs.Weights.{weights-weigh}
-use Rattle.method.proofs.Quotients.{down-below-up, ceilDiv-≤}
+use Rattle.method.proofs.Quotients.{round-≤}
 use Rattle.series.specs.Sides.{growthBy}
 use Rattle.series.proofs.Exponential.{growth-least}
 use Rattle.convergence.specs.declared.Weights.{Weights}
@@ -35,11 +35,7 @@ cut-high r e = rw e
 pub cut-between : (r : ℤ) → leZ (negsuc 499) r ≡ true → leZ r (pos 500) ≡ true → r ≡ cut r
 cut-between r low high = rw (high, low)
 
--- ---- a quotient of either side is at most what the divisor's multiple allows
-
-round-≤ : (up : Bool) {a m d : ℕ} → 0 < d → a ≤ m * d → roundℕ up a d ≤ m
-round-≤ true h l = ceilDiv-≤ h l
-round-≤ false {a} {m} {d} h l = le-trans (down-below-up .below d (le-refl a)) (ceilDiv-≤ h l)
+-- ---- M and P stay in their ranges
 
 pub scale-most : (up : Bool) (a q : ℕ) → 10_000_000 ≤ a → roundℕ up ((U - q) * 100_000_000) a ≤ 10 * U
 scale-most up a q h = round-≤ up (omega arith) (omega arith)

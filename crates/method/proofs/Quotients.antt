@@ -1,12 +1,14 @@
 -- Rounded quotients as the series take them: what they enclose, and that they grow with what is divided.
+use mathlib.Core.Bool.{Bool, true, false}
 use mathlib.Core.List.{[], _∷_}
-use mathlib.Core.Path.{_≡_}
-use Prim.Native.Nat.{ℕ, zero, suc, _+_, _*_, _-_, _/_, _≤_, _<_}
-use native.Mathlib.Nat.{mul-pos, zero-lt-suc, div-zero, le-div-iff-mul-le, div-lt-iff-lt-mul, div-mul-le-self, le-trans}
+use mathlib.Core.Path.{_≡_, sym, ap, _∙_}
+use Prim.Native.Nat.{ℕ, zero, suc, _+_, _*_, _-_, _/_, _%_, _≤_, _<_}
+use native.Mathlib.Nat.{mul-pos, zero-lt-suc, div-zero, le-div-iff-mul-le, div-lt-iff-lt-mul, div-mul-le-self, le-refl, le-trans}
+use native.Mathlib.Nat.{mul-add-div-right, div-add-mod'}
 use native.Mathlib.Omega.{arith}
 use lib.IntN.{pos}
 use Rattle.fraction.specs.Fraction.{ℚ, _≈_, _≤ℚ_, natℚ, _+ℚ_, _-ℚ_, _*ℚ_, _÷_, recip}
-use Rattle.fraction.specs.Rounding.{ceilDiv, Encloses}
+use Rattle.fraction.specs.Rounding.{ceilDiv, roundℕ, Encloses}
 use Rattle.fraction.proofs.Order.{≤ℚ-refl, ≤ℚ-antisym, ≤ℚ-≈-trans, ≈-≤ℚ-trans, ≈-sym, ≈-trans}
 use Rattle.fraction.proofs.Product.{*ℚ-comm, *ℚ-assoc, *ℚ-cong, *ℚ-cong-left, *ℚ-cong-right, *ℚ-one}
 use Rattle.fraction.proofs.Quotient.{*ℚ-recip, ÷-*ℚ, ÷-unique, ÷-cong-left, ≤-÷, ÷-≤}
@@ -85,3 +87,29 @@ up-below-up = record { below = λ d h. div-mono d (omega arith) }
 
 pub down-below-up : Below _/_ ceilDiv
 down-below-up = record { below = λ d h. div-mono d (omega arith) }
+
+-- neither side passes a bound that the exact quotient keeps
+pub round-≤ : (up : Bool) {a m d : ℕ} → 0 < d → a ≤ m * d → roundℕ up a d ≤ m
+round-≤ true h l = ceilDiv-≤ h l
+round-≤ false {a} {m} {d} h l = le-trans (down-below-up .below d (le-refl a)) (ceilDiv-≤ h l)
+
+-- ---- a product over d, part by part: the whole ds of one factor need no rounding. One law for down and up
+
+module _ (up : Bool) {d : ℕ} (h : 0 < d) where
+  round-split : (x y : ℕ) → roundℕ up (x * d + y) d ≡ x + roundℕ up y d
+  round-split = by-side up
+    where
+      by-side : (up : Bool) (x y : ℕ) → roundℕ up (x * d + y) d ≡ x + roundℕ up y d
+      by-side false x y = mul-add-div-right h x y
+      by-side true x y =
+          let e : x * d + y + (d - 1) ≡ x * d + (y + (d - 1)) = omega arith in
+          ap (λ (k : ℕ). k / d) e ∙ mul-add-div-right h x (y + (d - 1))
+
+  pub split-product : (a m : ℕ) → roundℕ up (a * m) d ≡ a / d * m + roundℕ up (a % d * m) d
+  split-product a m = ap (λ (k : ℕ). roundℕ up k d) parts ∙ round-split (a / d * m) (a % d * m)
+    where
+      whole-and-rest : (q r : ℕ) → (q * d + r) * m ≡ q * m * d + r * m
+      whole-and-rest q r = omega arith
+
+      parts : a * m ≡ a / d * m * d + a % d * m
+      parts = ap (λ (k : ℕ). k * m) (sym (div-add-mod' a d)) ∙ whole-and-rest (a / d) (a % d)

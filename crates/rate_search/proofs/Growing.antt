@@ -1,35 +1,19 @@
--- A year's growth in 64 bits: split where its product would not fit, and cut where it is past every bound.
-use mathlib.Core.Path.{_≡_, refl, sym, ap, _∙_}
+-- A year's growth in 64 bits: cut where it is past every bound.
+use mathlib.Core.Path.{_≡_, refl}
 use mathlib.Core.Bool.{Bool, true, false}
-use Prim.Native.Nat.{ℕ, zero, suc, _+_, _*_, _-_, _/_, _%_, _≤_, _<_, min}
-use native.Mathlib.Nat.{mul-add-div-right, div-add-mod', le-div-iff-mul-le, mul-le-mul-left, le-trans, le-refl, min-eq-left}
+use Prim.Native.Nat.{ℕ, zero, suc, _*_, _-_, _≤_, _<_, min}
+use native.Mathlib.Nat.{le-div-iff-mul-le, mul-le-mul-left, le-trans, le-refl, min-eq-left}
 use native.Mathlib.Omega.{arith}
 use lib.Dec.{leb, lit<}
 use borrow.Author.Tests.{leb-true, leb-false}
 use Rattle.fraction.specs.Rounding.{U, roundℕ}
 use Rattle.method.specs.Units.{rateUnit}
 use Rattle.method.proofs.Outcome.{split}
-use Rattle.method.proofs.Quotients.{down-below-up}
+use Rattle.method.proofs.Quotients.{down-below-up, round-≤}
 use Rattle.zero_rates.specs.Rates.{compound}
-use Rattle.zero_rates.proofs.Compounding.{round-≤}
 use Rattle.rate_search.specs.Search.{cap, growthCut}
 
 -- ---- a rounded quotient
-
-round-split : (up : Bool) (x y : ℕ) → roundℕ up (x * rateUnit + y) rateUnit ≡ x + roundℕ up y rateUnit
-round-split false x y = mul-add-div-right (lit< tt) x y
-round-split true x y =
-    let e : x * rateUnit + y + (rateUnit - 1) ≡ x * rateUnit + (y + (rateUnit - 1)) = omega arith in
-    ap (λ (k : ℕ). k / rateUnit) e ∙ mul-add-div-right (lit< tt) x (y + (rateUnit - 1))
-
-pub split-product : (up : Bool) (g m : ℕ) → roundℕ up (g * m) rateUnit ≡ g / rateUnit * m + roundℕ up (g % rateUnit * m) rateUnit
-split-product up g m = ap (λ (k : ℕ). roundℕ up k rateUnit) parts ∙ round-split up (g / rateUnit * m) (g % rateUnit * m)
-  where
-    spread : (q r : ℕ) → (q * rateUnit + r) * m ≡ q * m * rateUnit + r * m
-    spread q r = omega arith
-
-    parts : g * m ≡ g / rateUnit * m * rateUnit + g % rateUnit * m
-    parts = ap (λ (k : ℕ). k * m) (sym (div-add-mod' g rateUnit)) ∙ spread (g / rateUnit) (g % rateUnit)
 
 round-≥ : (up : Bool) {a k : ℕ} → k * rateUnit ≤ a → k ≤ roundℕ up a rateUnit
 round-≥ false h = le-div-iff-mul-le (lit< tt) .1 h
@@ -41,7 +25,7 @@ small-growth : (up : Bool) (m : ℕ) → m ≤ rateUnit → (t : ℕ) → compou
 unfolding compound
 small-growth up m h zero = le-refl U
 small-growth up m h (suc t) =
-    le-trans (round-≤ up {a = compound up m t * m} {k = compound up m t} (mul-le-mul-left (compound up m t) h)) (small-growth up m h t)
+    le-trans (round-≤ up {a = compound up m t * m} {m = compound up m t} (lit< tt) (mul-le-mul-left (compound up m t) h)) (small-growth up m h t)
 
 never-falls : (up : Bool) (g m : ℕ) → rateUnit ≤ m → g ≤ roundℕ up (g * m) rateUnit
 never-falls up g m h = round-≥ up {a = g * m} {k = g} (mul-le-mul-left g h)

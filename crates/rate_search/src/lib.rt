@@ -47,10 +47,7 @@ fn year_on(g: u64, m: u64, up: bool) -> u64
     if g < 90_000_000_000_000 {
         return rounding::quotient(g * m, RATE_UNIT, up);
     }
-    let whole = g / RATE_UNIT;
-    let rest = g % RATE_UNIT;
-    let product = whole * m + rounding::quotient(rest * m, RATE_UNIT, up);
-    rounding::smaller(product, CAP)
+    rounding::smaller(rounding::split_quotient(g, m, RATE_UNIT, up), CAP)
 }
 
 // At m and at m + 1 in one loop, as neither waits for the other.

@@ -1,7 +1,7 @@
 // A low and a high, and quotients rounded to either side: up for a high, down for a low. Each function that takes `up` works a
 // high with it, and a low without.
 ghost use mathlib.Core.Path.{_≡_};
-ghost use Prim.Native.Nat.{_+_, _*_, _^_, _≤_, _<_, min};
+ghost use Prim.Native.Nat.{_+_, _*_, _/_, _^_, _≤_, _<_, min};
 ghost use lib.IntN.{pos, natAbs};
 ghost use lib.Signed.{_<ℤ_};
 ghost use Rattle.fraction.specs.Rounding.{U, floor, ceiling, roundℤ, roundℕ};
@@ -42,6 +42,14 @@ pub fn quotient(a: u64, b: u64, up: bool) -> u64
     ensures { λ r. ⌜ r ≡ roundℕ up a b ⌝ }
 {
     if up { (a + (b - 1)) / b } else { a / b }
+}
+
+// a * m / b, whose product may not fit: the whole b's of a need no rounding, and leave a rest that fits.
+pub fn split_quotient(a: u64, m: u64, b: u64, up: bool) -> u64
+    requires { ⌜ (0 < b) × (b * m + b ≤ 2 ^ 64) × ((a / b + 1) * m < 2 ^ 64) ⌝ }
+    ensures { λ r. ⌜ r ≡ roundℕ up (a * m) b ⌝ }
+{
+    (a / b) * m + quotient((a % b) * m, b, up)
 }
 
 // a * x / U

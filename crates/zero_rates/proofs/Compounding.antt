@@ -20,15 +20,11 @@ use Rattle.fraction.proofs.Enclosure.{encloses-≈, encloses-scaled}
 use Rattle.fraction.proofs.Ring.{var, _⊗_}
 use Rattle.fraction.proofs.RingFraction.{ringℚ}
 use Rattle.method.specs.Units.{rateUnit}
-use Rattle.method.proofs.Quotients.{nat-exact, ceilDiv-≤, down-below-down, down-below-up, up-below-up}
+use Rattle.method.proofs.Quotients.{nat-exact, down-below-down, down-below-up, up-below-up}
 use Rattle.zero_rates.specs.Rates.{compound}
 use Rattle.zero_rates.specs.Meaning.{grown, exactGrowth}
 
 -- ---- one induction for both roundings
-
-pub round-≤ : (up : Bool) {a k : ℕ} → a ≤ k * rateUnit → roundℕ up a rateUnit ≤ k
-round-≤ true h = ceilDiv-≤ (lit< tt) h
-round-≤ false {a} h = le-trans (down-below-up .below {a = a} {b = a} rateUnit (le-refl a)) (ceilDiv-≤ (lit< tt) h)
 
 round-mono : (up : Bool) {a b : ℕ} → a ≤ b → roundℕ up a rateUnit ≤ roundℕ up b rateUnit
 round-mono true h = up-below-up .below rateUnit h

@@ -5,11 +5,13 @@ use Prim.Native.Nat.{ℕ, zero, suc, _-_, _≤_}
 use native.Mathlib.Nat.{mul-le-mul, mul-le-mul-left, mul-le-mul-right, le-trans}
 use native.Mathlib.Omega.{arith}
 use borrow.Author.Tests.{leb-true, le-leb, not-true, not-false}
+use lib.Dec.{lit<}
 use Rattle.method.proofs.Outcome.{split}
+use Rattle.method.proofs.Quotients.{round-≤}
 use Rattle.method.proofs.HalvingLaws.{Falls, halve-within, halve-low-passes, halve-high-fails, ends-met, halve-last, halve-first}
 use Rattle.zero_rates.specs.Rates.{compound, staysBelow, reaches, lowMultiplier, highMultiplier}
 use Rattle.zero_rates.specs.Rates.{leastMultiplier, greatestMultiplier, pastRange, beforeRange}
-use Rattle.zero_rates.proofs.Compounding.{round-≤, compound-mono}
+use Rattle.zero_rates.proofs.Compounding.{compound-mono}
 
 -- ---- each test holds on one side of somewhere
 
@@ -32,8 +34,8 @@ misses-falls t low a b h fails =
 
 halves : (up : Bool) (t : ℕ) → compound up leastMultiplier (suc t) ≤ 500_000_000
 unfolding compound
-halves up zero = round-≤ up {k = 500_000_000} (omega arith)
-halves up (suc t) = round-≤ up {k = 500_000_000} (omega (arith, mul-le-mul-right leastMultiplier (halves up t)))
+halves up zero = round-≤ up {m = 500_000_000} (lit< tt) (omega arith)
+halves up (suc t) = round-≤ up {m = 500_000_000} (lit< tt) (omega (arith, mul-le-mul-right leastMultiplier (halves up t)))
 
 pub least-stays : (t high : ℕ) → 1 ≤ t → high ≤ 2_000_000_000 → staysBelow t high leastMultiplier ≡ true
 unfolding staysBelow
