@@ -21,10 +21,10 @@ asGap g = record { rate = g .rate; years = g .years; annuity = asPair (g .annuit
 abbrev pub gapOf : ℤ → ℕ → ℕ → ℕ → ℕ → ℕ → Gap
 gapOf r k al ah tl th = record { rate = r; years = k; annuity = record { low = al; high = ah }; start = record { low = tl; high = th } }
 
--- a gap of at most ten years, whose A sums at most fifty factors
+-- a gap of at most thirty years, whose A sums at most fifty factors
 pub record GapFits (g : Gap) : Type 0 where
   pub rate : mag (g .rate) ≤ 12_000
-  pub years : g .years ≤ 10
+  pub years : g .years ≤ 30
   pub annuity : PairAtMost 100_000_000_000 (g .annuity)
   pub start : PairAtMost highestFactor (g .start)
 
@@ -62,11 +62,16 @@ parSide r annuity = cond (nonNeg r) parValue (parValue + natAbs r * annuity)
 
 -- ---- S and Tk of a trial of k years from t, and what they stay below
 
+-- what T is multiplied up to in a long trial, of at most thirty years, and in a short one, of at most twenty
+abbrev pub largest : Bool → ℕ
+largest true = 35_000_000_000
+largest false = 16_000_000_000
+
 pub record SumsOf (up : Bool) (t x k : ℕ) (s : Sums) : Type 0 where
   pub total : s .total ≡ total (quotes.trial (roundℕ up) t x k)
   pub last : s .last ≡ lastOf t (quotes.trial (roundℕ up) t x k)
-  pub total-small : s .total ≤ 60_000_000_000
-  pub last-small : s .last ≤ 6_000_000_000
+  pub total-small : s .total ≤ 1_050_000_000_000
+  pub last-small : s .last ≤ 35_000_000_000
 
 -- a side's S and Tk
 abbrev pub sumBy : quotes.Gap → ℕ → Bool → ℕ
@@ -79,5 +84,5 @@ lastBy g x up = lastOf (endOf up (g .start)) (quotes.trial (roundℕ up) (endOf 
 pub record SideOf (g : quotes.Gap) (x : ℕ) (up : Bool) (s : Sums) : Type 0 where
   pub total : s .total ≡ endOf up (g .annuity) + sumBy g x up
   pub last : s .last ≡ lastBy g x up
-  pub total-small : s .total ≤ 200_000_000_000
-  pub last-small : s .last ≤ 6_000_000_000
+  pub total-small : s .total ≤ 1_200_000_000_000
+  pub last-small : s .last ≤ 35_000_000_000

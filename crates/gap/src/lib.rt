@@ -3,13 +3,18 @@
 use rounding::Pair;
 ghost use mathlib.Core.Path.{_≡_};
 ghost use mathlib.Core.Bool.{true, _&&_};
-ghost use Prim.Native.Nat.{_-_, _≤_};
+ghost use Prim.Native.Nat.{_*_, _-_, _≤_};
 ghost use lib.IntN.{pos, natAbs, _+ℤ_};
 ghost use lib.Signed.{mag, _<ℤ_};
+ghost use Rattle.fraction.specs.Rounding.{U, roundℕ};
 ghost use Rattle.method.specs.Units.{pair, rateUnit};
 ghost use Rattle.method.specs.Quotes.{parNumerator, surelyNotAbove, surelyNotBelow, halve, lowX, highX, lowerEnd, upperEnd};
 ghost use Rattle.rounding.specs.Pairs.{asPair, PairAtMost};
-ghost use Rattle.gap.specs.Gaps.{asGap, gapOf, GapFits, parBy, parTest, paidSide, parSide, passesBy, risesBy, Halved, SumsOf, SideOf};
+ghost use Rattle.gap.specs.Gaps.{asGap, gapOf, GapFits, parBy, parTest, paidSide, parSide, passesBy, risesBy, Halved};
+ghost use Rattle.gap.specs.Gaps.{largest, SumsOf, SideOf};
+
+// U of the definitions.
+const UNIT: u64 = 1_000_000_000;
 
 const RATE_UNIT: u64 = 100_000;
 
@@ -20,6 +25,9 @@ const PAR: u64 = 100_000_000_000_000;
 const LOWER_END: u64 = 800_000_000;
 
 const UPPER_END: u64 = 1_100_000_000;
+
+// In a trial of so many years every product of T and x fits 64 bits.
+const SHORT: u64 = 20;
 
 pub struct Gap {
     pub rate: i64,
@@ -82,7 +90,7 @@ fn size(rate: i64) -> u64
 }
 
 fn weigh(rate: i64, annuity: u64, last: u64) -> Sides
-    requires { ⌜ (mag rate ≤ 12_000) × (annuity ≤ 200_000_000_000) × (last ≤ 6_000_000_000) ⌝ }
+    requires { ⌜ (mag rate ≤ 12_000) × (annuity ≤ 1_200_000_000_000) × (last ≤ 35_000_000_000) ⌝ }
     ensures { λ r. ⌜ (r .paid ≡ paidSide rate annuity last) × (r .par ≡ parSide rate annuity) ⌝ }
 {
     let moved = size(rate) * annuity;
@@ -102,7 +110,7 @@ fn weigh(rate: i64, annuity: u64, last: u64) -> Sides
 
 // At most par with `up`, at least par without.
 fn compared(rate: i64, annuity: u64, last: u64, up: bool) -> bool
-    requires { ⌜ (mag rate ≤ 12_000) × (annuity ≤ 200_000_000_000) × (last ≤ 6_000_000_000) ⌝ }
+    requires { ⌜ (mag rate ≤ 12_000) × (annuity ≤ 1_200_000_000_000) × (last ≤ 35_000_000_000) ⌝ }
     ensures { λ r. ⌜ r ≡ parTest up rate annuity last ⌝ }
 {
     let s = weigh(rate, annuity, last);
@@ -111,15 +119,28 @@ fn compared(rate: i64, annuity: u64, last: u64, up: bool) -> bool
 
 // ---- the trial
 
+// T × x / U. In a long trial the product may not fit, and is split.
+fn year_on(t: u64, x: u64, up: bool, long: bool) -> u64
+    requires { ⌜ (t ≤ largest long) × (x ≤ upperEnd) ⌝ }
+    ensures { λ r. ⌜ r ≡ roundℕ up (t * x) U ⌝ }
+{
+    if long {
+        rounding::split_quotient(t, x, UNIT, up)
+    } else {
+        rounding::quotient(t * x, UNIT, up)
+    }
+}
+
 fn trial(start: u64, x: u64, years: u64, up: bool) -> Sums
-    requires { ⌜ (start ≤ 2_000_000_000) × (x ≤ upperEnd) × (years ≤ 10) ⌝ }
+    requires { ⌜ (start ≤ 2_000_000_000) × (x ≤ upperEnd) × (years ≤ 30) ⌝ }
     ensures { λ r. ⌜ SumsOf up start x years r ⌝ }
 {
+    let long = SHORT < years;
     let mut last = start;
     let mut total = 0;
     let mut year = 0;
     while year < years {
-        last = rounding::scale(last, x, up);
+        last = year_on(last, x, up, long);
         total = total + last;
         year = year + 1;
     }

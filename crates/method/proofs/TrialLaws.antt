@@ -114,15 +114,22 @@ last-grows t y k (suc j) h =
     let step : last ≤ ceilDiv (last * y) U = le-of-mul-le-mul-right {k = U} (omega (arith, up-≥ (last * y), mul-le-mul-left last h)) U-positive in
     rw (add-suc k j, last-more ceilDiv t y (k + j)) (le-trans (last-grows t y k j h) step)
 
--- by the highest start and the upper end, over ten years
+-- by the highest start and the upper end; the bounds are what they come to over twenty and over thirty years
 module _ {f : ℕ → ℕ → ℕ} (o : Ordered f ceilDiv) {t x : ℕ} (start : t ≤ highestFactor) (factor : x ≤ upperEnd) where
-  pub last-bounded : (k : ℕ) → k ≤ 10 → lastOf t (trial f t x k) ≤ 5_187_484_921
-  unfolding trial lastOf
-  last-bounded k h =
-      let e : k + (10 - k) ≡ 10 = omega arith in
-      le-trans (last-ordered o start factor k) (rw e at (last-grows highestFactor upperEnd k (10 - k) (omega arith)))
+  last-most : (k n : ℕ) → k ≤ n → lastOf t (trial f t x k) ≤ lastOf highestFactor (trial ceilDiv highestFactor upperEnd n)
+  last-most k n h =
+      let e : k + (n - k) ≡ n = omega arith in
+      le-trans (last-ordered o start factor k) (rw e at (last-grows highestFactor upperEnd k (n - k) (omega arith)))
 
-  pub total-bounded : (k : ℕ) → k ≤ 10 → total (trial f t x k) ≤ k * 5_187_484_921
+  pub last-short : (k : ℕ) → k ≤ 20 → lastOf t (trial f t x k) ≤ 13_454_999_909
+  unfolding trial lastOf
+  last-short k h = last-most k 20 h
+
+  pub last-bounded : (k : ℕ) → k ≤ 30 → lastOf t (trial f t x k) ≤ 34_898_804_569
+  unfolding trial lastOf
+  last-bounded k h = last-most k 30 h
+
+  pub total-bounded : (k : ℕ) → k ≤ 30 → total (trial f t x k) ≤ k * 34_898_804_569
   total-bounded zero h = omega (arith, total-none f t x)
   total-bounded (suc k) h = omega (arith, total-more f t x k, total-bounded k (omega arith), last-bounded (suc k) h)
 

@@ -4,9 +4,8 @@ use mathlib.Core.Bool.{Bool}
 use Prim.Native.Nat.{ℕ, _+_, _-_, _≤_}
 use native.Mathlib.Omega.{arith}
 use borrow.Author.Needs.{needs}
-use Rattle.method.proofs.TrialLaws.{product-fits}
 use Rattle.gap.specs.Gaps.{SumsOf}
-use Rattle.gap.proofs.Trials.{sums-none, sums-more}
+use Rattle.gap.proofs.Trials.{last-fits, sums-none, sums-more}
 use Rattle.gap.proofs.trial.Statement.{statement}
 use Rattle.gap.proofs.trial.Tie as tie
 
@@ -15,21 +14,25 @@ record Done (up : Bool) (start x years last total year : ℕ) : Type 0 where
   sums : SumsOf up start x year (record { total = total; last = last })
 
 abbrev Inv-loop : tie.InvT-loop
-Inv-loop start x years up last₀ total₀ year₀ last total year = Done up start x years last total year
+Inv-loop start x years up long last₀ total₀ year₀ last total year = Done up start x years last total year
 
 abbrev μ-loop : tie.MeasureT-loop
-μ-loop start x years up last₀ total₀ year₀ last total year = years - year
+μ-loop start x years up long last₀ total₀ year₀ last total year = years - year
 
 loop-holds : tie.Need-loop-holds Inv-loop μ-loop
 loop-holds c = record { within = omega arith; sums = sums-none (c .args .up) (c .pre .0) (c .pre .1) }
 
-scale-requires : tie.Need-scale-requires Inv-loop μ-loop
-scale-requires c κs = product-fits _ _ (c .before .loop .inv .sums .last-small) (c .before .before .pre .1)
+year-on-requires : tie.Need-year-on-requires Inv-loop μ-loop
+year-on-requires c κs =
+    let l = c .before .loop in
+    let s = c .before .before in
+    let a = s .args in
+    (last-fits (a .up) (s .pre .0) (s .pre .1) (l .year) (a .years) (l .inv .within) (s .pre .2) _ (l .inv .sums), s .pre .1)
 
-next-sums : (c : tie.After-scale Inv-loop μ-loop) →
+next-sums : (c : tie.After-year-on Inv-loop μ-loop) →
     let l = c .before .before .loop in
     let s = c .before .before .before .args in
-    Done (s .up) (s .start) (s .x) (s .years) (c .scale .result) (l .total + c .scale .result) (l .year + 1)
+    Done (s .up) (s .start) (s .x) (s .years) (c .year-on .result) (l .total + c .year-on .result) (l .year + 1)
 next-sums c =
     let at-loop = c .before .before in
     let start = at-loop .before in
@@ -39,7 +42,7 @@ next-sums c =
       sums =
           sums-more (start .args .up) (start .pre .0) (start .pre .1) (at-loop .loop .year) (omega (arith, start .pre .2)) _ _
           (at-loop .loop .inv .sums)
-          (c .scale .ensures);
+          (c .year-on .ensures);
     }
 
 add-total : tie.Need-add-total Inv-loop μ-loop
@@ -67,7 +70,7 @@ trial-spec =
     Inv-loop
     μ-loop
     loop-holds
-    scale-requires
+    year-on-requires
     add-total
     add-year
     loop-less

@@ -18,7 +18,7 @@ module _ (c : tie.After-size) where
   size-is : c .size .result ≡ natAbs (c .before .args .rate)
   size-is = rw (toZ-ofZ w64 _ (c .before .fits .rate)) at (c .size .ensures .0)
 
-  moved-small : c .size .result * c .before .args .annuity ≤ 12_001 * 200_000_000_000
+  moved-small : c .size .result * c .before .args .annuity ≤ 12_001 * 1_200_000_000_000
   moved-small = mul-le-mul (c .size .ensures .1) (c .before .pre .1)
 
 mul-moved : tie.Need-mul-moved
