@@ -4,15 +4,17 @@ use mathlib.Core.Bool.{Bool, true, false}
 use mathlib.Core.List.{List, [], _∷_, _++_}
 use Prim.Native.Nat.{ℕ, zero, suc, _+_, _*_, _-_, _/_, _≤_, _<_}
 use lib.IntN.{ℤ, pos, natAbs}
-use lib.ListN.{length, take}
+use lib.ListN.{length, take, getD}
+use lib.Signed.{mag}
 use Rattle.fraction.specs.Rounding.{U, ceilDiv}
 use Rattle.method.specs.Units.{Pair, SignedPair, pair, signedPair, pairsOf}
 use Rattle.method.specs.Grounds.{Outcome, done, _>>=_}
-use Rattle.method.specs.Quotes.{Bootstrap, Quote, annuity, parLow, parHigh, trial, nextYear, quotedYear, insideYears}
-use Rattle.method.specs.Ranges.{Each, Factor, gapsWith}
+use Rattle.method.specs.Quotes.{Bootstrap, Quote, quotesOf, annuity, parLow, parHigh, trial, nextYear, quotedYear, insideYears}
+use Rattle.method.specs.Ranges.{Each, Factor, gapsWith, climbs}
 use Rattle.rounding.specs.Pairs.{asPair}
 use Rattle.grounds.specs.declared.Verdict.{Verdict}
 use Rattle.grounds.specs.Verdicts.{asOutcome}
+use Rattle.bootstrap.specs.declared.Quotes.{Quotes}
 use Rattle.bootstrap.specs.declared.Liquid.{Liquid}
 use Rattle.bootstrap.specs.declared.Step.{Step}
 
@@ -61,6 +63,17 @@ nextYears t x (suc k) r ps = insideYears (trial _/_ (t .low) (x .low) k) (trial 
 abbrev pub quote : ℕ → ℤ → Quote
 quote m r = record { maturity = m; rate = r }
 
+-- ---- the quotes, as many as there are
+
+abbrev pub asQuotes : Quotes → List Quote
+asQuotes q = quotesOf (take (q .count) (q .maturities)) (take (q .count) (q .rates))
+
+-- their maturities climb to at most 50 years, with gaps of at most 30 and at most 7 of them
+pub record QuotesClimb (q : Quotes) : Type 0 where
+  pub within : q .count ≤ 17
+  pub climb : climbs 0 0 (take (q .count) (q .maturities)) ≡ true
+  pub small : (i : ℕ) → mag (getD (take (q .count) (q .rates)) i (pos 0)) ≤ 12_000
+
 -- ---- what holds of it at every point
 
 -- the arrays have their lengths, the factors are in their range, and A is their sum
@@ -74,9 +87,9 @@ pub record LiquidSound (w : Liquid) : Type 0 where
   pub long-xhighs : length (w .xhighs) ≡ 7
   pub gaps-within : w .gaps ≤ 7
 
--- the arrays have room for the years to a maturity, at most ten on
+-- the arrays have room for the years to a maturity, at most thirty on
 pub record Reaches (w : Liquid) (m : ℕ) : Type 0 where
   pub rises : w .count < m
-  pub short : m - w .count ≤ 10
+  pub short : m - w .count ≤ 30
   pub within : m ≤ 50
   pub gaps : gapsWith (m - w .count) (w .gaps) ≤ 7

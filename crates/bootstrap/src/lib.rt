@@ -1,29 +1,32 @@
-// The liquid part of a curve: the factors of years 1 to 50 from the quotes and the yearly factors of their gaps, or the first of
-// grounds 7 to 9.
+// The liquid part of a curve: the factors of the years to the last quote, at most 50, and the yearly factors of the quotes' gaps, or the
+// first of grounds 7 to 9.
 use gap::Gap;
 use grounds::Ground;
 use grounds::Verdict;
 use rounding::Pair;
 use rounding::SignedPair;
 ghost use mathlib.Core.Path.{_≡_};
-ghost use Prim.Native.Nat.{ℕ, _+_, _≤_, _<_};
-ghost use lib.IntN.{pos};
-ghost use lib.ListN.{getD};
+ghost use Prim.Native.Nat.{_+_, _≤_, _<_};
 ghost use lib.Signed.{mag};
-ghost use Rattle.method.specs.Sheet.{maturities};
 ghost use Rattle.method.specs.Ranges.{Factor};
-ghost use Rattle.method.specs.Quotes.{lastYear, gapAfter, gapYears, yearsTo, quotesOf, bootstrap, upperEnd};
+ghost use Rattle.method.specs.Quotes.{lastYear, gapAfter, gapYears, yearsTo, bootstrap, upperEnd};
 ghost use Rattle.rounding.specs.Pairs.{asPair, asSignedPair, PairAtMost};
 ghost use Rattle.grounds.specs.Verdicts.{asOutcome, resultOr};
 ghost use Rattle.gap.specs.Gaps.{asGap, GapFits};
 ghost use Rattle.bootstrap.specs.Liquids.{asBootstrap, asStep, nothing, withGap, lifted, Judges, nextFactor, nextYears, LiquidSound, Reaches, quote};
+ghost use Rattle.bootstrap.specs.Liquids.{asQuotes, QuotesClimb};
 
 // U of the definitions.
 const UNIT: u64 = 1_000_000_000;
 
 const HIGHEST_FACTOR: i64 = 2_000_000_000;
 
-const QUOTES: usize = 17;
+// The first `count` of them, in the order of their maturities.
+pub struct Quotes {
+    pub maturities: [u64; 17],
+    pub rates: [i16; 17],
+    pub count: usize,
+}
 
 // The first `count` factors, and A, their sum; the low and the high yearly factor of the first `gaps` gaps.
 pub struct Liquid {
@@ -158,7 +161,7 @@ fn last_year(w: Liquid) -> Pair
 
 // A gap's rate and years with what stands before it.
 fn gap_after(w: Liquid, k: u64, rate: i64) -> Gap
-    requires { ⌜ LiquidSound w × (k ≤ 10) × (mag rate ≤ 12_000) ⌝ }
+    requires { ⌜ LiquidSound w × (k ≤ 30) × (mag rate ≤ 12_000) ⌝ }
     ensures { λ r. ⌜ (asGap r ≡ gapAfter (asBootstrap w .factors) k rate) × GapFits r × Factor (asPair (r .start)) ⌝ }
 {
     let annuity = w.annuity;
@@ -186,7 +189,7 @@ fn joined_gap(w: Liquid, x: Pair) -> Liquid
 
 // 9 first, then the gap's years, the last by par.
 fn gap_years(w: Liquid, k: u64, rate: i64) -> Step
-    requires { ⌜ LiquidSound w × (0 < k) × (k ≤ 10) × (w .count + k ≤ 50) × (w .gaps < 7) × (mag rate ≤ 12_000) ⌝ }
+    requires { ⌜ LiquidSound w × (0 < k) × (k ≤ 30) × (w .count + k ≤ 50) × (w .gaps < 7) × (mag rate ≤ 12_000) ⌝ }
     ensures { λ r. ⌜ (asStep r ≡ gapYears k rate (asBootstrap w)) × LiquidSound (r .liquid) ⌝ }
 {
     let g = gap_after(w, k, rate);
@@ -222,16 +225,16 @@ fn years_to(w: Liquid, maturity: u64, rate: i64) -> Step
 }
 
 // The quotes in the order of their maturities, up to the first ground that applies.
-pub fn bootstrap(rates: [i16; 17]) -> Bootstrapped
-    requires { ⌜ ((k : ℕ) → mag (getD rates k (pos 0)) ≤ 12_000) ⌝ }
-    ensures outcome { λ r. ⌜ asOutcome (r .verdict) (asBootstrap (r .liquid)) ≡ bootstrap (quotesOf maturities rates) ⌝ }
-    ensures beside { λ r. ⌜ asBootstrap (r .liquid) ≡ resultOr nothing (bootstrap (quotesOf maturities rates)) ⌝ }
+pub fn bootstrap(q: Quotes) -> Bootstrapped
+    requires { ⌜ QuotesClimb q ⌝ }
+    ensures outcome { λ r. ⌜ asOutcome (r .verdict) (asBootstrap (r .liquid)) ≡ bootstrap (asQuotes q) ⌝ }
+    ensures beside { λ r. ⌜ asBootstrap (r .liquid) ≡ resultOr nothing (bootstrap (asQuotes q)) ⌝ }
     ensures sound { λ r. ⌜ LiquidSound (r .liquid) ⌝ }
 {
     let mut liquid = fresh();
     let mut i: usize = 0;
-    while i < QUOTES {
-        let step = years_to(liquid, sheet::maturity(i), rates[i] as i64);
+    while i < q.count {
+        let step = years_to(liquid, q.maturities[i], q.rates[i] as i64);
         let verdict = step.verdict;
         liquid = step.liquid;
         let Verdict::Passed = verdict else {

@@ -1,26 +1,30 @@
 -- From the quotes to the arrays of all years.
-use mathlib.Core.Path.{_≡_, sym, subst⁻¹, _∙_}
+use mathlib.Core.Path.{_≡_, refl, ap, sym, subst⁻¹, _∙_}
+use mathlib.Core.Bool.{Bool}
 use mathlib.Core.List.{List}
-use Prim.Native.Nat.{ℕ, _+_, _<_}
+use Prim.Native.Nat.{ℕ, _+_, _≤_, _<_}
 use native.Mathlib.Omega.{arith}
-use lib.ListN.{length, take, drop, getD, replicate, List·getD-append}
-use lib.Seq.{take-all, take-at, length-take-le, getD-take, getD-drop}
+use lib.ListN.{length, take, drop, getD, replicate, length-take, length-drop, List·getD-append}
+use lib.Seq.{take-at, take-take, length-take-le, getD-take}
 use lib.Signed.{_≤ℤ_}
+use Rattle.fraction.specs.Rounding.{U}
 use Rattle.method.specs.Units.{Pair, pair, pairsOf, SignedPair}
-use Rattle.method.specs.Sheet.{Numbers}
+use Rattle.method.specs.Sheet.{Numbers, volumeMaturities}
 use Rattle.method.specs.Quotes.{lastYear}
 use Rattle.method.specs.Series.{ultimateForward}
 use Rattle.method.specs.Extrapolation.{llfr, weights, extrapolate}
-use Rattle.method.specs.Curve.{smoothingYear, factorOf, gapForwards}
-use Rattle.method.specs.Ranges.{forwardBound, YearlyFactor}
-use Rattle.method.proofs.QuotesBounds.{bootstrap-bounded, bootstrap-length}
+use Rattle.method.specs.Curve.{smoothingYear, smoothingIndex, usedBy, spread, factorOf, gapForwards}
+use Rattle.method.specs.Ranges.{forwardBound, Factor, YearlyFactor}
+use Rattle.method.proofs.QuotesBounds.{bootstrap-bounded}
+use Rattle.method.proofs.Used.{to-smoothing-year, as-many-marks, spread-length, spread-pairs}
+use Rattle.method.proofs.Enclosure as method
 use Rattle.method.proofs.Zips.{zip-take, zip-drop, pairs-last, pairs-each}
 use Rattle.rounding.specs.Pairs.{asSignedPair, SizeAtMost}
 use Rattle.rounding.specs.declared.SignedPair as code
 use Rattle.grounds.specs.Verdicts.{asOutcome}
 use Rattle.bootstrap.specs.declared.Liquid.{Liquid}
 use Rattle.bootstrap.specs.Liquids.{asBootstrap}
-use Rattle.bootstrap.proofs.Soundness.{count-is, gaps-is, same-length, same-gaps}
+use Rattle.bootstrap.proofs.Soundness.{count-is, same-length}
 use Rattle.extrapolation.specs.declared.Years.{Years}
 use Rattle.extrapolation.specs.declared.Extended.{Extended}
 use Rattle.extrapolation.specs.Extrapolated.{asYears, factorAt, InRange, Usable, Ahead, Kept}
@@ -28,33 +32,41 @@ use Rattle.convergence.specs.declared.Weights.{Weights}
 use Rattle.convergence.specs.Weights.{WeightsOf}
 use Rattle.curve.specs.Curves.{firstYears, WorkedQuotes, Extends}
 
--- ---- the quotes were worked: all 50 factors and all 7 gaps
+-- ---- the quotes were worked: at least 20 factors, and a yearly factor for each gap
 
 module _ {n : Numbers} {q : Liquid} (w : WorkedQuotes n q) where
-  lengths : (length (asBootstrap q .factors) ≡ 50) × (length (asBootstrap q .yearlyFactors) ≡ 7)
-  lengths = bootstrap-length (n .rates) (w .numbers .rate-count) (w .worked)
+  least : 20 ≤ q .count
+  least = rw (← count-is (w .sound)) (to-smoothing-year n (w .worked) (w .numbers .rate-count))
 
-  pub all-factors : asBootstrap q .factors ≡ pairsOf (q .lows) (q .highs)
-  all-factors =
-      let all = sym (count-is (w .sound)) ∙ lengths .0 in
-      rw (all, take-all 50 (q .lows) (omega (arith, w .sound .long-lows)), take-all 50 (q .highs) (omega (arith, w .sound .long-highs)))
+  -- the years to 20 are the first of both arrays
+  quoted-are : take smoothingYear (asBootstrap q .factors) ≡ pairsOf (take smoothingYear (q .lows)) (take smoothingYear (q .highs))
+  quoted-are =
+      zip-take pair smoothingYear (take (q .count) (q .lows)) (take (q .count) (q .highs))
+      ∙ rw (take-take smoothingYear (q .count) (q .lows) least, take-take smoothingYear (q .count) (q .highs) least) refl
 
-  pub all-gaps : asBootstrap q .yearlyFactors ≡ pairsOf (q .xlows) (q .xhighs)
-  all-gaps =
-      let all = sym (gaps-is (w .sound)) ∙ lengths .1 in
-      rw (all, take-all 7 (q .xlows) (omega (arith, w .sound .long-xlows)), take-all 7 (q .xhighs) (omega (arith, w .sound .long-xhighs)))
+  -- ---- the x of the five stretches
 
-  -- ---- the last five of seven yearly factors
+  abbrev marks : List Bool
+  marks = drop smoothingIndex (usedBy n)
 
-  module _ {lows highs : List ℕ} (el : lows ≡ drop 2 (q .xlows)) (eh : highs ≡ drop 2 (q .xhighs)) where
-    pub five-gaps : pairsOf lows highs ≡ drop 2 (asBootstrap q .yearlyFactors)
-    five-gaps = rw (el, eh, all-gaps) (sym (zip-drop pair 2 (q .xlows) (q .xhighs)))
+  module _ {lows highs : List ℕ} (el : lows ≡ spread U marks (drop 2 (take (q .gaps) (q .xlows))))
+      (eh : highs ≡ spread U marks (drop 2 (take (q .gaps) (q .xhighs)))) where
+    pub five-stretches : pairsOf lows highs ≡ spread (pair U U) marks (drop 2 (asBootstrap q .yearlyFactors))
+    five-stretches =
+        let xlows = take (q .gaps) (q .xlows) in
+        let xhighs = take (q .gaps) (q .xhighs) in
+        let same : length (drop 2 xlows) ≡ length (drop 2 xhighs) =
+        simp (length-drop, length-take) (rw (w .sound .long-xlows, w .sound .long-xhighs) refl) in
+        rw (el, eh) (spread-pairs U U marks (drop 2 xlows) (drop 2 xhighs) same ∙ ap (spread (pair U U) marks) (sym (zip-drop pair 2 xlows xhighs)))
 
     pub five-in-range : (i : ℕ) → i < 5 → YearlyFactor (pair (getD lows i 0) (getD highs i 0))
+    unfolding volumeMaturities
     five-in-range i h =
-        let each = bootstrap-bounded _ (w .worked) .yearly in
-        rw (el, eh, getD-drop 2 (q .xlows) i 0, getD-drop 2 (q .xhighs) i 0)
-        (pairs-each (q .xlows) (q .xhighs) (same-gaps (w .sound)) (rw all-gaps at each) (2 + i) (omega (arith, w .sound .long-xlows)))
+        let marked = as-many-marks (n .volumes) (w .numbers .volume-count) in
+        let five-lows : length lows ≡ 5 = ap length el ∙ spread-length U marks _ ∙ marked in
+        let five-highs : length highs ≡ 5 = ap length eh ∙ spread-length U marks _ ∙ marked in
+        let each = method.xs-in-range n (method.usable n (w .numbers)) (w .worked) in
+        pairs-each lows highs (five-lows ∙ sym five-highs) {P = YearlyFactor} (rw five-stretches each) i (omega (arith, five-lows))
 
   -- ---- the years to 20, and zeros
 
@@ -72,17 +84,22 @@ module _ {n : Numbers} {q : Liquid} (w : WorkedQuotes n q) where
 
     pub in-range-20 : InRange (factorAt y 19)
     in-range-20 =
-        let each = bootstrap-bounded _ (w .worked) .factors in
-        let f = pairs-each (q .lows) (q .highs) (same-length (w .sound)) (rw all-factors at each) 19 (omega (arith, w .sound .long-lows)) in
-        rw at-20 (record { ordered = f .ordered; at-most = f .greatest })
+        let lows = take (q .count) (q .lows) in
+        let highs = take (q .count) (q .highs) in
+        let long : length lows ≡ q .count = length-take-le (q .count) (q .lows) (omega (arith, w .sound .within, w .sound .long-lows)) in
+        let same = long ∙ sym (length-take-le (q .count) (q .highs) (omega (arith, w .sound .within, w .sound .long-highs))) in
+        let f = pairs-each lows highs same (bootstrap-bounded _ (w .worked) .factors) 19 (omega (arith, long, least)) in
+        let g : Factor (pair (getD (q .lows) 19 0) (getD (q .highs) 19 0)) =
+        rw (getD-take (q .count) (q .lows) 19 0 (omega (arith, least)), getD-take (q .count) (q .highs) 19 0 (omega (arith, least))) at f in
+        rw at-20 (record { ordered = g .ordered; at-most = g .greatest })
 
     last-quoted : lastYear (take smoothingYear (asBootstrap q .factors)) ≡ factorAt y 19
     last-quoted =
-        rw (all-factors, zip-take pair smoothingYear (q .lows) (q .highs))
+        rw quoted-are
         (pairs-last (q .lows) (q .highs) (same-length (w .sound)) 19 (omega (arith, w .sound .long-lows)) ∙ sym at-20)
 
-    pub extends : (r : Extended) {l f : SignedPair} {κs : List Pair} → l ≡ ultimateForward (n .ultimate) → f ≡ llfr (n .volumes) (gapForwards (asBootstrap q)) →
-        κs ≡ weights (factorOf n) 130 →
+    pub extends : (r : Extended) {l f : SignedPair} {κs : List Pair} → l ≡ ultimateForward (n .ultimate) →
+        f ≡ llfr (n .volumes) (gapForwards n (asBootstrap q)) → κs ≡ weights (factorOf n) 130 →
         asOutcome (r .verdict) (drop 20 (asYears (r .years))) ≡ extrapolate l f κs (smoothingYear + 1) (factorAt y 19) → Kept 20 y r → Extends n q r
     extends r ul uf uκ o k =
         record {
@@ -90,7 +107,7 @@ module _ {n : Numbers} {q : Liquid} (w : WorkedQuotes n q) where
               let lows = first-take (q .lows) (w .sound .long-lows) in
               let highs = first-take (q .highs) (w .sound .long-highs) in
               zip-take pair smoothingYear (r .years .lows) (r .years .highs)
-              ∙ rw (k .quoted-lows, k .quoted-highs, el, eh, lows, highs, all-factors) (sym (zip-take pair smoothingYear (q .lows) (q .highs)));
+              ∙ rw (k .quoted-lows, k .quoted-highs, el, eh, lows, highs) (sym quoted-are);
           later = o ∙ rw (ul, uf, uκ, last-quoted);
         }
 

@@ -3,17 +3,17 @@ use mathlib.Core.Path.{_≡_, refl, _∙_}
 use mathlib.Core.List.{List}
 use Prim.Native.Nat.{ℕ}
 use lib.Dec.{eqb}
-use lib.ListN.{length, take, drop, take-append-drop, length-take}
+use lib.ListN.{length, take, drop, take-append-drop}
 use borrow.Author.Tests.{eq-eqb, ne-eqb}
 use Rattle.method.specs.Units.{pair, pairsOf}
 use Rattle.method.specs.Grounds.{Ground, bandTooWide, refused, done, _>>=_, demand}
-use Rattle.method.specs.Sheet.{Numbers, maturities}
-use Rattle.method.specs.Quotes.{Bootstrap, bootstrap, quotesOf}
+use Rattle.method.specs.Sheet.{Numbers}
+use Rattle.method.specs.Quotes.{Bootstrap, bootstrap}
 use Rattle.method.specs.Extrapolation.{firstTooWide}
 use Rattle.method.specs.Curve as method
-use Rattle.method.specs.Curve.{Curve, smoothingYear, withinLimit, extended, curveOf}
+use Rattle.method.specs.Curve.{Curve, smoothingYear, usedQuotes, withinLimit, extended, curveOf}
 use Rattle.method.proofs.Outcome.{bind-assoc}
-use Rattle.method.proofs.QuotesBounds.{bootstrap-length}
+use Rattle.method.proofs.Used.{quoted-length}
 use Rattle.method.proofs.Zips.{zip-left, zip-right}
 use Rattle.curve.specs.Curves.{laterYears, banded}
 
@@ -36,14 +36,14 @@ module _ (c : Curve) where
 -- ---- grounds 7 to 10
 
 module _ (n : Numbers) where
-  pub quotes-refused : {g : Ground} → bootstrap (quotesOf maturities (n .rates)) ≡ refused g → curveOf n ≡ refused g
+  pub quotes-refused : {g : Ground} → bootstrap (usedQuotes n) ≡ refused g → curveOf n ≡ refused g
   unfolding curveOf
   quotes-refused e = rw e
 
-  module _ (b : Bootstrap) (d : bootstrap (quotesOf maturities (n .rates)) ≡ done b) (seventeen : length (n .rates) ≡ 17) where
+  module _ (b : Bootstrap) (d : bootstrap (usedQuotes n) ≡ done b) (seventeen : length (n .rates) ≡ 17) where
     -- the quoted years are 20
     twenty : length (take smoothingYear (b .factors)) ≡ smoothingYear
-    twenty = simp (length-take, bootstrap-length (n .rates) seventeen d .0)
+    twenty = quoted-length n d seventeen
 
     pub later-refused : {g : Ground} → laterYears n b ≡ refused g → curveOf n ≡ refused g
     unfolding curveOf extended

@@ -6,12 +6,12 @@ use lib.Dec.{eqb}
 use lib.ListN.{take, drop, replicate}
 use Rattle.method.specs.Units.{Pair, pairsOf}
 use Rattle.method.specs.Grounds.{bandTooWide, Outcome, done, _>>=_, demand}
-use Rattle.method.specs.Sheet.{Numbers, maturities}
-use Rattle.method.specs.Quotes.{Bootstrap, bootstrap, quotesOf, lastYear}
+use Rattle.method.specs.Sheet.{Numbers}
+use Rattle.method.specs.Quotes.{Bootstrap, bootstrap, lastYear}
 use Rattle.method.specs.Series.{ultimateForward}
 use Rattle.method.specs.Extrapolation.{llfr, weights, extrapolate, firstTooWide}
 use Rattle.method.specs.Curve as method
-use Rattle.method.specs.Curve.{smoothingYear, factorOf, gapForwards}
+use Rattle.method.specs.Curve.{smoothingYear, usedQuotes, factorOf, gapForwards}
 use Rattle.method.specs.Ranges.{NumbersInRange}
 use Rattle.grounds.specs.Verdicts.{asOutcome}
 use Rattle.bootstrap.specs.declared.Liquid.{Liquid}
@@ -29,10 +29,10 @@ noCurve = record { month = 0; limit = 0; lows = replicate 150 0; highs = replica
 
 -- ---- the steps of `curveOf`
 
--- the quotes of a sheet's numbers, none refused
+-- the quotes that a sheet's numbers leave, none refused
 pub record WorkedQuotes (n : Numbers) (q : Liquid) : Type 0 where
   pub numbers : NumbersInRange n
-  pub worked : bootstrap (quotesOf maturities (n .rates)) ≡ done (asBootstrap q)
+  pub worked : bootstrap (usedQuotes n) ≡ done (asBootstrap q)
   pub sound : LiquidSound q
 
 -- the years to 20, and zeros
@@ -42,7 +42,7 @@ firstYears xs = take smoothingYear xs ++ replicate 130 0
 -- the years after them
 abbrev pub laterYears : Numbers → Bootstrap → Outcome (List Pair)
 laterYears n b =
-    extrapolate (ultimateForward (n .ultimate)) (llfr (n .volumes) (gapForwards b)) (weights (factorOf n) 130) (smoothingYear + 1)
+    extrapolate (ultimateForward (n .ultimate)) (llfr (n .volumes) (gapForwards n b)) (weights (factorOf n) 130) (smoothingYear + 1)
     (lastYear (take smoothingYear (b .factors)))
 
 -- all years

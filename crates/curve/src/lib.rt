@@ -8,7 +8,6 @@ use rounding::SignedPair;
 use sheet::Numbers;
 ghost use mathlib.Core.Path.{_≡_};
 ghost use Prim.Native.Nat.{_-_};
-ghost use lib.ListN.{drop};
 ghost use Rattle.method.specs.Ranges.{forwardBound, NumbersInRange};
 ghost use Rattle.method.specs.Extrapolation.{llfr, firstTooWide};
 ghost use Rattle.method.specs.Curve.{factorOf, gapForwards, curveOf};
@@ -57,23 +56,17 @@ fn first_years(q: Liquid) -> Years
     years
 }
 
-// Of the gaps 15-20, 20-25, 25-30, 30-40, 40-50.
-fn last_five(xs: [u64; 7]) -> [u64; 5]
-    ensures { λ r. ⌜ r ≡ drop 2 xs ⌝ }
-{
-    [xs[2], xs[3], xs[4], xs[5], xs[6]]
-}
-
 // LLFR.
 fn last_liquid_forward(n: Numbers, q: Liquid) -> SignedPair
     requires { ⌜ WorkedQuotes (asNumbers n) q ⌝ }
-    ensures { λ r. ⌜ (asSignedPair r ≡ llfr (n .volumes) (gapForwards (asBootstrap q))) × SizeAtMost forwardBound r ⌝ }
+    ensures { λ r. ⌜ (asSignedPair r ≡ llfr (n .volumes) (gapForwards (asNumbers n) (asBootstrap q))) × SizeAtMost forwardBound r ⌝ }
 {
     let volumes = n.volumes;
     let xlows = q.xlows;
     let xhighs = q.xhighs;
-    let gaps = extrapolation::gap_forwards(last_five(xlows), last_five(xhighs));
-    extrapolation::llfr(volumes, gaps)
+    let lows = used_quotes::spread_out(volumes, xlows, q.gaps);
+    let highs = used_quotes::spread_out(volumes, xhighs, q.gaps);
+    extrapolation::llfr(volumes, extrapolation::gap_forwards(lows, highs))
 }
 
 // The sheet's convergence factor, by its phase-in and the quoted 20-year rate.
@@ -187,14 +180,15 @@ fn from_quotes(n: Numbers, q: Liquid) -> Worked
     })
 }
 
-// 7 to 9 on the quotes, then the rest.
+// 7 to 9 on the quotes that are used, then the rest.
 pub fn from_numbers(n: Numbers) -> Worked
     requires { ⌜ NumbersInRange (asNumbers n) ⌝ }
     ensures outcome { λ r. ⌜ asOutcome (r .verdict) (asCurve (r .curve)) ≡ curveOf (asNumbers n) ⌝ }
     ensures beside { λ r. ⌜ asCurve (r .curve) ≡ resultOr noCurve (curveOf (asNumbers n)) ⌝ }
 {
     let rates = n.rates;
-    let quotes = bootstrap::bootstrap(rates);
+    let volumes = n.volumes;
+    let quotes = bootstrap::bootstrap(used_quotes::select(rates, volumes));
     let verdict = quotes.verdict;
     let Verdict::Passed = verdict else {
         return unworked(verdict);

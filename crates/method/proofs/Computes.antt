@@ -3,20 +3,20 @@ use Prim.Native.Nat.{ℕ}
 use Rattle.method.specs.Sheet.{maturities, volumeMaturities, firstEntries, bytesOf, layoutOf, entriesOf, sizeOf, slotsFrom, slotsOf}
 use Rattle.method.specs.Sheet.{firstFailure, total, readSheet}
 use Rattle.method.specs.Quotes.{annuity, trial, lastOf, surelyNotAbove, surelyNotBelow, halve, lowX, highX, quotedYear}
-use Rattle.method.specs.Quotes.{insideYears, lastYear, gapYears, parYear, yearsTo, bootstrapFrom, quotesOf, bootstrap}
+use Rattle.method.specs.Quotes.{insideYears, lastYear, used, kept, gapYears, parYear, yearsTo, bootstrapFrom, quotesOf, bootstrap}
 use Rattle.method.specs.Series.{logarithmSum, logarithm, G, gapForward, ultimateForward, growthSum, growth}
 use Rattle.method.specs.Table.{table}
 use Rattle.method.specs.Extrapolation.{llfrNumerator, llfr, convergenceFactor, κPairs, decayPair, scalePair, weightsFrom, weights}
 use Rattle.method.specs.Extrapolation.{forward, step, extrapolate, firstTooWide}
-use Rattle.method.specs.Curve.{factorOf, withinLimit, extended, curveOf, answer}
+use Rattle.method.specs.Curve.{spread, factorOf, withinLimit, extended, curveOf, answer}
 use Rattle.method.specs.Bytes.{bigEndian}
 
 unfoldable pub computes : ℕ
 unfolding maturities volumeMaturities firstEntries bytesOf layoutOf entriesOf sizeOf slotsFrom slotsOf bigEndian firstFailure total readSheet
     annuity trial lastOf surelyNotAbove surelyNotBelow halve lowX highX quotedYear insideYears lastYear
-    gapYears parYear yearsTo bootstrapFrom quotesOf bootstrap
+    used kept gapYears parYear yearsTo bootstrapFrom quotesOf bootstrap
     logarithmSum logarithm G gapForward ultimateForward growthSum growth
     table llfrNumerator llfr convergenceFactor κPairs decayPair scalePair weightsFrom weights
     forward step extrapolate firstTooWide
-    factorOf withinLimit extended curveOf answer
+    spread factorOf withinLimit extended curveOf answer
 computes = 0

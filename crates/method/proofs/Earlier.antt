@@ -1,40 +1,86 @@
--- Where the sheet's factor is 10% not a digit changed: the curve is the one that the table's weights give. So it is for a sheet
--- without the phase-in's record, with 10,000 in it, or with a 20-year rate from 0.5% up.
-use mathlib.Core.Path.{_≡_, subst, _∙_}
-use mathlib.Core.Bool.{false}
-use mathlib.Core.List.{List, _++_, append-nil}
-use Prim.Native.Nat.{ℕ, _+_, _≤_}
-use borrow.Author.Tests.{le-ltb}
+-- Not a digit changed where nothing new is asked for. Where the sheet's factor is 10% the curve is the one that the table's weights
+-- give: so it is for a sheet without the phase-in's record, with 10,000 in it, or with a 20-year rate from 0.5% up. Where no volume
+-- past 20 years is 0 the curve is the one that every quote gives.
+use mathlib.Core.Path.{_≡_, refl, ap, subst, _∙_}
+use mathlib.Core.Bool.{Bool, true, false}
+use mathlib.Core.List.{List, _++_, map, append-nil}
+use Prim.Native.Nat.{ℕ, _+_, _-_, _≤_, _<_}
+use borrow.Author.Tests.{le-ltb, lt-ltb}
 use lib.IntN.{pos}
-use lib.ListN.{length, take, getD, length-take}
-use Rattle.method.specs.Grounds.{done, _>>=_}
-use Rattle.method.specs.Sheet.{Numbers, maturities, firstEntries, layoutOf, entriesOf, sheetNumbers, readSheet}
-use Rattle.method.specs.Quotes.{bootstrap, quotesOf, lastYear}
-use Rattle.method.specs.Series.{ultimateForward}
+use lib.Dec.{ltb, lit≤, lit<}
+use lib.ListN.{length, take, drop, getD, replicate, length-drop}
+use Rattle.fraction.specs.Rounding.{U}
+use Rattle.method.specs.Units.{Pair, pair}
+use Rattle.method.specs.Grounds.{Outcome, done, _>>=_}
+use Rattle.method.specs.Sheet.{Numbers, maturities, volumeMaturities, firstEntries, layoutOf, entriesOf, sheetNumbers, readSheet}
+use Rattle.method.specs.Quotes.{used, kept, Quote, Bootstrap, bootstrap, quotesOf, lastYear}
+use Rattle.method.specs.Series.{gapForward, ultimateForward}
 use Rattle.method.specs.Table.{table}
 use Rattle.method.specs.Extrapolation.{llfr, κPairs, extrapolate}
-use Rattle.method.specs.Curve.{smoothingYear, smoothingIndex, gapForwards, factorOf, withinLimit, extended, curveWith, curveOf, answer}
-use Rattle.method.specs.Earlier.{tabledCurve}
+use Rattle.method.specs.Curve.{smoothingYear, smoothingIndex, usedBy, usedQuotes, spread, gapForwards, factorOf, withinLimit, extended}
+use Rattle.method.specs.Curve.{Curve, curveWith, curveOf, answer}
+use Rattle.method.specs.Earlier.{tabledCurve, everyQuoteCurve}
 use Rattle.method.proofs.Outcome.{bind-assoc, bind-with}
 use Rattle.method.proofs.Layouts.{phased-is}
 use Rattle.method.proofs.Reading.{read-passes}
 use Rattle.method.proofs.SheetBounds.{read-bounds}
-use Rattle.method.proofs.QuotesBounds.{bootstrap-length}
+use Rattle.method.proofs.Entries.{spelled-out}
+use Rattle.method.proofs.QuotesLaws.{quotes-length}
+use Rattle.method.proofs.Used.{kept-all, spread-all, quoted-length, gaps-length}
 use Rattle.method.proofs.Weights.{weights-tabled}
 use Rattle.method.proofs.Speed.{factor-plain, factor-high}
 
 pub at-ten-percent : (n : Numbers) → length (n .rates) ≡ 17 → factorOf n ≡ 10_000_000 → curveOf n ≡ tabledCurve n
 unfolding curveOf tabledCurve extended
 at-ten-percent n seventeen ten =
-    bind-with (bootstrap (quotesOf maturities (n .rates)))
+    bind-with (bootstrap (usedQuotes n))
     λ b d.
     let quoted = take smoothingYear (b .factors) in
-    let twenty : length quoted ≡ 20 = simp (length-take, bootstrap-length (n .rates) seventeen d .0) in
-    rw (twenty, ten, weights-tabled)
+    rw (quoted-length n d seventeen, ten, weights-tabled)
     (bind-assoc
-    (extrapolate (ultimateForward (n .ultimate)) (llfr (n .volumes) (gapForwards b)) (κPairs table) 21 (lastYear quoted))
+    (extrapolate (ultimateForward (n .ultimate)) (llfr (n .volumes) (gapForwards n b)) (κPairs table) 21 (lastYear quoted))
     (λ later. withinLimit (n .limit) (quoted ++ later))
     (λ years. done (curveWith n years)))
+
+-- ---- no volume past 20 years is 0; the one at 20 may be
+
+module _ (n : Numbers) (seventeen : length (n .rates) ≡ 17) (five : length (n .volumes) ≡ 5)
+    (traded : (i : ℕ) → 1 ≤ i → i < 5 → 0 < getD (n .volumes) i 0) where
+  all-used : usedBy n ≡ replicate 17 true
+  unfolding used
+  all-used =
+      subst (λ (v : List ℕ). used smoothingIndex v ≡ replicate 17 true) (spelled-out 0 (n .volumes) five)
+      (rw (above 1 (lit≤ tt) (lit< tt), above 2 (lit≤ tt) (lit< tt), above 3 (lit≤ tt) (lit< tt), above 4 (lit≤ tt) (lit< tt)) refl)
+    where
+      above : (i : ℕ) → 1 ≤ i → i < 5 → ltb 0 (getD (n .volumes) i 0) ≡ true
+      above i h k = lt-ltb 0 _ (traded i h k)
+
+  pub every-quote : usedQuotes n ≡ quotesOf maturities (n .rates)
+  unfolding maturities
+  every-quote =
+      let quotes = quotesOf maturities (n .rates) in
+      let many : length quotes ≡ 17 = quotes-length maturities (n .rates) seventeen in
+      rw all-used (subst (λ (k : ℕ). kept (replicate k true) quotes ≡ quotes) many (kept-all quotes))
+
+  module _ {b : Bootstrap} (d : bootstrap (usedQuotes n) ≡ done b) where
+    five-gaps : length (drop 2 (b .yearlyFactors)) ≡ 5
+    unfolding kept volumeMaturities
+    five-gaps =
+        let seven = gaps-length n d seventeen ∙ ap (λ (us : List Bool). 2 + length (kept (drop smoothingIndex us) volumeMaturities)) all-used in
+        length-drop 2 (b .yearlyFactors) ∙ ap (λ (k : ℕ). k - 2) seven
+
+    own-gaps : spread (pair U U) (drop smoothingIndex (usedBy n)) (drop 2 (b .yearlyFactors)) ≡ drop 2 (b .yearlyFactors)
+    own-gaps =
+        let xs = drop 2 (b .yearlyFactors) in
+        rw all-used (subst (λ (k : ℕ). spread (pair U U) (replicate k true) xs ≡ xs) five-gaps (spread-all (pair U U) xs))
+
+  pub same-without-zeros : curveOf n ≡ everyQuoteCurve n
+  unfolding curveOf everyQuoteCurve
+  same-without-zeros =
+      let rest : Bootstrap → List Pair → Outcome Curve =
+      λ b xs. extended n (llfr (n .volumes) (map gapForward xs)) (take smoothingYear (b .factors)) >>= λ years. done (curveWith n years) in
+      bind-with (bootstrap (usedQuotes n)) (λ b d. ap (rest b) (own-gaps d))
+      ∙ ap (λ (qs : List Quote). bootstrap qs >>= λ b. rest b (drop 2 (b .yearlyFactors))) every-quote
 
 -- ---- a sheet of up to 109 bytes
 
@@ -51,7 +97,7 @@ module _ (s : List ℕ) (h : length s ≤ 109) where
   unfolding factorOf
   without-record = rw plain (factor-plain _)
 
-  -- so it has the answer that it had
+  -- so it has the answer that the table gives
   pub earlier-answer : answer s ≡ (readSheet s >>= tabledCurve)
   unfolding answer
   earlier-answer =

@@ -4,29 +4,30 @@ use mathlib.Core.List.{List, [], _∷_, map}
 use Prim.Native.Nat.{ℕ, zero, suc, _+_, _-_, _≤_, _<_, zero-le}
 use native.Mathlib.Nat.{le-of-suc-le-suc}
 use native.Mathlib.Omega.{arith}
-use lib.Dec.{leb→le}
+use lib.Dec.{leb→le, lit≤}
 use lib.IntN.{ℤ, pos}
-use lib.ListN.{length, take, drop, getD, length-drop, length-take, length-map}
-use lib.Seq.{getD-drop}
+use lib.ListN.{length, take, drop, getD, length-map, List·getD-map}
 use lib.Signed.{_≤ℤ_}
 use Rattle.fraction.specs.Fraction.{ℚ, natℚ}
-use Rattle.fraction.specs.Rounding.{Encloses}
+use Rattle.fraction.specs.Rounding.{U, Encloses}
 use Rattle.fraction.proofs.Enclosure.{encloses-ordered, nat-below, nat-above}
 use Rattle.method.specs.Units.{Pair, pair}
 use Rattle.method.specs.Grounds.{done}
-use Rattle.method.specs.Sheet.{Numbers, readSheet, sheetNumbers, maturities}
-use Rattle.method.specs.Quotes.{Bootstrap, bootstrap, quotesOf}
+use Rattle.method.specs.Sheet.{Numbers, readSheet, sheetNumbers, maturities, volumeMaturities}
+use Rattle.method.specs.Quotes.{Bootstrap, bootstrap}
 use Rattle.method.specs.Series.{gapForward, ultimateForward}
 use Rattle.method.specs.Extrapolation.{llfr}
-use Rattle.method.specs.Curve.{Curve, smoothingYear, gapForwards, extended, curveOf, answer}
-use Rattle.method.specs.True.{minusLog, liquid, lastLiquidForward, trueCurve, trueFactor}
+use Rattle.method.specs.Curve.{Curve, smoothingYear, smoothingIndex, usedBy, usedQuotes, spread, gapForwards, extended, curveOf, answer}
+use Rattle.method.specs.True.{minusLog, Liquid, liquid, yearlyTo, lastLiquidForward, toLastYear, trueCurve, trueFactor}
 use Rattle.method.specs.Enclosure.{CurveHolds, lowOf, highOf}
 use Rattle.method.proofs.Outcome.{bind-done, done-injective}
-use Rattle.method.proofs.Enclosed.{AllEnclosed, enclosed-take, enclosed-drop, enclosed-at, enclosed-length}
-use Rattle.method.proofs.QuotesBounds.{each-at, bootstrap-length, bootstrap-bounded}
+use Rattle.method.proofs.Enclosed.{AllEnclosed, enclosed-take, enclosed-at, enclosed-length}
+use Rattle.method.proofs.QuotesBounds.{each-at, each-drop, bootstrap-bounded}
+use Rattle.method.proofs.Used.{kept-above, beside-used, usedMaturities, used-climb, climbs-rise, usedRates, used-apart, quoted-length, gaps-length}
+use Rattle.method.proofs.Used.{spread-each, five-enclosed}
 use Rattle.method.proofs.Reading.{read-passes}
 use Rattle.method.proofs.SheetBounds.{read-bounds}
-use Rattle.method.proofs.Liquid.{LiquidEnclosed, RatesAbove, Rising, bootstrap-encloses}
+use Rattle.method.proofs.Liquid.{LiquidEnclosed, RatesAbove, bootstrap-encloses}
 use Rattle.method.proofs.Logarithm.{gapForward-encloses, ultimateForward-encloses}
 use Rattle.method.proofs.SeriesBounds.{gapForward-bound}
 use Rattle.method.proofs.Size.{Within}
@@ -41,11 +42,6 @@ map-at f [] i d e h = absurd (omega arith)
 map-at f (x ∷ xs) zero d e h = refl
 map-at f (x ∷ xs) (suc i) d e h = map-at f xs i d e (le-of-suc-le-suc h)
 
-map-all {ℓ κ} : {A : Type ℓ} {B : Type κ} (f : A → B) (xs : List A) (i : ℕ) (d : A) → getD (map f xs) i (f d) ≡ f (getD xs i d)
-map-all f [] i d = refl
-map-all f (x ∷ xs) zero d = refl
-map-all f (x ∷ xs) (suc i) d = map-all f xs i d
-
 factors-at-most : {ps : List Pair} → Each Factor ps → HighsAtMost ps
 factors-at-most Each.none i = zero-le
 factors-at-most (Each.more f e) zero = f .greatest
@@ -57,71 +53,82 @@ take-at-most (suc k) [] h i = zero-le
 take-at-most (suc k) (p ∷ ps) h zero = h zero
 take-at-most (suc k) (p ∷ ps) h (suc i) = take-at-most k ps (λ j. h (suc j)) i
 
--- ---- the forwards of the gaps
+-- ---- the forwards of five x
 
-module _ (n : ℕ) {ys : List Pair} {xs : List ℚ} (e : AllEnclosed ys xs) (r : Each YearlyFactor ys) (l7 : length ys ≡ 7) where
-  -- gap 2 + i
-  nth : (i : ℕ) → i < 5 → getD (drop 2 ys) i (pair 0 0) ≡ getD ys (2 + i) (pair 0 0)
-  nth i h = getD-drop 2 ys i (pair 0 0)
+module _ (n : ℕ) {ys : List Pair} {xs : List ℚ} (e : AllEnclosed ys xs) (r : Each YearlyFactor ys) (five : length ys ≡ 5) where
+  five-true : length xs ≡ 5
+  five-true = sym (enclosed-length e) ∙ five
 
-  five : length (drop 2 ys) ≡ 5
-  five = length-drop 2 ys ∙ ap (λ (k : ℕ). k - 2) l7
-
-  five-true : length (drop 2 xs) ≡ 5
-  five-true = sym (enclosed-length (enclosed-drop 2 e)) ∙ five
-
-  in-range : (i : ℕ) → i < 5 → YearlyFactor (getD (drop 2 ys) i (pair 0 0))
-  in-range i h = rw (nth i h) (each-at (2 + i) (pair 0 0) r (omega arith))
+  in-range : (i : ℕ) → i < 5 → YearlyFactor (getD ys i (pair 0 0))
+  in-range i h = each-at i (pair 0 0) r (omega arith)
 
   forward-at : (i : ℕ) → i < 5 →
-      let f = getD (map gapForward (drop 2 ys)) i zeroPair in
-      Encloses (f .low) (f .high) (getD (map (minusLog n) (drop 2 xs)) i (natℚ 0))
+      let f = getD (map gapForward ys) i zeroPair in
+      Encloses (f .low) (f .high) (getD (map (minusLog n) xs) i (natℚ 0))
   forward-at i h =
-      let y = getD (drop 2 ys) i (pair 0 0) in
+      let y = getD ys i (pair 0 0) in
       let k = in-range i h in
-      let t = enclosed-at i (pair 0 0) (natℚ 0) (enclosed-drop 2 e) (rw five h) in
-      rw (map-at gapForward (drop 2 ys) i (pair 0 0) zeroPair (rw five h), map-at (minusLog n) (drop 2 xs) i (natℚ 0) (natℚ 0) (rw five-true h))
+      let t = enclosed-at i (pair 0 0) (natℚ 0) e (rw five h) in
+      rw (map-at gapForward ys i (pair 0 0) zeroPair (rw five h), map-at (minusLog n) xs i (natℚ 0) (natℚ 0) (rw five-true h))
       (gapForward-encloses n y (k .low-least) (k .high-greatest) (nat-below t) (nat-above t))
 
-  bound-at : (i : ℕ) → i < 5 → Within 250_000_000 (getD (map gapForward (drop 2 ys)) i zeroPair)
+  bound-at : (i : ℕ) → i < 5 → Within 250_000_000 (getD (map gapForward ys) i zeroPair)
   bound-at i h =
-      let y = getD (drop 2 ys) i (pair 0 0) in
+      let y = getD ys i (pair 0 0) in
       let k = in-range i h in
       let b = gapForward-bound y (k .low-least) (k .low-greatest) (k .high-least) (k .high-greatest) in
-      rw (map-at gapForward (drop 2 ys) i (pair 0 0) zeroPair (rw five h))
+      rw (map-at gapForward ys i (pair 0 0) zeroPair (rw five h))
       (record { low-within = record { bound = omega (arith, b .0) }; high-within = record { bound = omega (arith, b .1) } })
-
-rising : Rising 0 maturities
-unfolding maturities
-rising = omega arith
 
 -- ---- the last liquid forward rate
 
-module _ (s : Numbers) (u : Usable s) {b : Bootstrap} (d : bootstrap (quotesOf maturities (s .rates)) ≡ done b) where
-  quotes-enclosed : (n : ℕ) → LiquidEnclosed b (liquid n maturities (s .rates))
-  quotes-enclosed n = bootstrap-encloses n maturities (s .rates) rising (u .rates-above) d
+module _ (s : Numbers) (u : Usable s) {b : Bootstrap} (d : bootstrap (usedQuotes s) ≡ done b) where
+  abbrev ms : List ℕ
+  ms = usedMaturities (s .volumes)
 
-  seven : length (b .yearlyFactors) ≡ 7
-  seven = bootstrap-length (s .rates) (u .rate-count) d .1
+  abbrev trueQuotes : ℕ → Liquid
+  trueQuotes n = liquid n ms (usedRates s d)
 
-  gaps-length : length (gapForwards b) ≡ 5
-  gaps-length = length-map (drop 2 (b .yearlyFactors)) gapForward ∙ five 0 (quotes-enclosed 0 .yearly) (quotes-enclosed 0 .yearly-in-range) seven
+  quotes-enclosed : (n : ℕ) → LiquidEnclosed b (trueQuotes n)
+  quotes-enclosed n =
+      let rises = climbs-rise 0 0 ms (used-climb (s .volumes)) in
+      bootstrap-encloses n ms (usedRates s d) rises (kept-above (usedBy s) (s .rates) (u .rates-above)) (used-apart s d)
+
+  -- the x of the five stretches, and the true ones
+  abbrev xs : List Pair
+  xs = spread (pair U U) (drop smoothingIndex (usedBy s)) (drop 2 (b .yearlyFactors))
+
+  abbrev trueXs : ℕ → List ℚ
+  trueXs n = map (λ m. yearlyTo m (drop 10 ms) (trueQuotes n .yearly)) volumeMaturities
+
+  xs-enclosed : (n : ℕ) → AllEnclosed xs (trueXs n)
+  xs-enclosed n = five-enclosed (s .volumes) (u .volume-count) (quotes-enclosed n .yearly) (gaps-length s d (u .rate-count))
+
+  pub xs-in-range : Each YearlyFactor xs
+  xs-in-range =
+      let one : YearlyFactor (pair U U) = record { low-least = lit≤ tt; low-greatest = lit≤ tt; high-least = lit≤ tt; high-greatest = lit≤ tt } in
+      spread-each (pair U U) (drop smoothingIndex (usedBy s)) one (each-drop 2 (quotes-enclosed 0 .yearly-in-range))
+
+  pub five : length xs ≡ 5
+  unfolding volumeMaturities
+  five = enclosed-length (xs-enclosed 0)
+
+  forwards-length : length (gapForwards s b) ≡ 5
+  forwards-length = length-map xs gapForward ∙ five
 
   llfr-enclosed : (n : ℕ) →
-      Encloses (llfr (s .volumes) (gapForwards b) .low) (llfr (s .volumes) (gapForwards b) .high)
-      (lastLiquidForward (s .volumes) (map (minusLog n) (drop 2 (liquid n maturities (s .rates) .yearly))))
+      Encloses (llfr (s .volumes) (gapForwards s b) .low) (llfr (s .volumes) (gapForwards s b) .high)
+      (lastLiquidForward (s .volumes) (map (minusLog n) (trueXs n)))
   llfr-enclosed n =
-      let l = quotes-enclosed n in
-      let fs = map (minusLog n) (drop 2 (liquid n maturities (s .rates) .yearly)) in
-      let lf : length fs ≡ 5 = length-map (drop 2 (liquid n maturities (s .rates) .yearly)) (minusLog n) ∙ five-true n (l .yearly) (l .yearly-in-range) seven in
-      llfr-encloses-at (s .volumes) (gapForwards b) fs (u .volume-count) gaps-length lf (u .traded) (forward-at n (l .yearly) (l .yearly-in-range) seven)
+      let e = xs-enclosed n in
+      let forwards : length (map (minusLog n) (trueXs n)) ≡ 5 = length-map (trueXs n) (minusLog n) ∙ five-true n e xs-in-range five in
+      llfr-encloses-at (s .volumes) (gapForwards s b) _ (u .volume-count) forwards-length forwards (u .traded) (forward-at n e xs-in-range five)
 
-  llfr-within : Within 250_000_000 (llfr (s .volumes) (gapForwards b))
+  llfr-within : Within 250_000_000 (llfr (s .volumes) (gapForwards s b))
   llfr-within =
-      let l = quotes-enclosed 0 in
-      llfr-bound-at (s .volumes) (gapForwards b) (u .volume-count) gaps-length (u .traded) (bound-at 0 (l .yearly) (l .yearly-in-range) seven)
+      llfr-bound-at (s .volumes) (gapForwards s b) (u .volume-count) forwards-length (u .traded) (bound-at 0 (xs-enclosed 0) xs-in-range five)
 
-  pub llfr-ordered : llfr (s .volumes) (gapForwards b) .low ≤ℤ llfr (s .volumes) (gapForwards b) .high
+  pub llfr-ordered : llfr (s .volumes) (gapForwards s b) .low ≤ℤ llfr (s .volumes) (gapForwards s b) .high
   llfr-ordered = encloses-ordered (llfr-enclosed 0)
 
 pub ultimateForward-ordered : (u : ℕ) → u ≤ 10_000 → ultimateForward u .low ≤ℤ ultimateForward u .high
@@ -133,47 +140,52 @@ ultimateForward-ordered u h = encloses-ordered (ultimateForward-encloses 0 u h)
 record Worked (s : Numbers) (c : Curve) : Type 0 where
   b : Bootstrap
   years : List Pair
-  liquid-done : bootstrap (quotesOf maturities (s .rates)) ≡ done b
-  extended-done : extended s (llfr (s .volumes) (gapForwards b)) (take smoothingYear (b .factors)) ≡ done years
+  liquid-done : bootstrap (usedQuotes s) ≡ done b
+  extended-done : extended s (llfr (s .volumes) (gapForwards s b)) (take smoothingYear (b .factors)) ≡ done years
   is : c ≡ record { month = s .month; limit = s .limit; lows = map (λ p. p .low) years; highs = map (λ p. p .high) years }
 
 worked : (s : Numbers) (c : Curve) → curveOf s ≡ done c → Worked s c
 unfolding curveOf
 worked s c e =
-    let boot = bind-done (bootstrap (quotesOf maturities (s .rates))) _ e in
+    let boot = bind-done (bootstrap (usedQuotes s)) _ e in
     let b = boot .0 in
-    let ext = bind-done (extended s (llfr (s .volumes) (gapForwards b)) (take smoothingYear (b .factors))) _ (boot .2) in
+    let ext = bind-done (extended s (llfr (s .volumes) (gapForwards s b)) (take smoothingYear (b .factors))) _ (boot .2) in
     record { b = b; years = ext .0; liquid-done = boot .1; extended-done = ext .1; is = sym (done-injective (ext .2)) }
 
 module _ (s : Numbers) (u : Usable s) {c : Curve} (w : Worked s c) where
   abbrev quoted : List Pair
   quoted = take smoothingYear (w .b .factors)
 
-  quoted-length : length quoted ≡ 20
-  quoted-length =
-      let fifty = bootstrap-length (s .rates) (u .rate-count) (w .liquid-done) .0 in
-      simp (length-take, fifty)
+  twenty : length quoted ≡ 20
+  twenty = quoted-length s (w .liquid-done) (u .rate-count)
 
-  steps : Extends s (llfr (s .volumes) (gapForwards (w .b))) quoted (w .years)
+  steps : Extends s (llfr (s .volumes) (gapForwards s (w .b))) quoted (w .years)
   steps = extends s _ quoted (w .extended-done)
 
   years-length : length (w .years) ≡ 150
-  years-length = extended-length s u _ quoted steps (omega (arith, quoted-length)) (omega (arith, quoted-length))
+  years-length = extended-length s u _ quoted steps (omega (arith, twenty)) (omega (arith, twenty))
+
+  -- the true curve's quotes are those that are used
+  true-is : (n : ℕ) →
+      let d = w .liquid-done in
+      trueCurve n s ≡ toLastYear n s (lastLiquidForward (s .volumes) (map (minusLog n) (trueXs s u d n))) (take 20 (trueQuotes s u d n .factors))
+  unfolding trueCurve volumeMaturities
+  true-is n = rw (beside-used (s .volumes) maturities (u .volume-count), beside-used (s .volumes) (s .rates) (u .volume-count)) refl
 
   enclosed : (n : ℕ) → AllEnclosed (w .years) (trueCurve n s)
-  unfolding trueCurve
   enclosed n =
-      extended-holds s u _ quoted steps (omega (arith, quoted-length)) (omega (arith, quoted-length)) n
+      rw (true-is n)
+      (extended-holds s u _ quoted steps (omega (arith, twenty)) (omega (arith, twenty)) n
       (llfr-within s u (w .liquid-done))
       (llfr-enclosed s u (w .liquid-done) n)
-      (enclosed-take smoothingYear (quotes-enclosed s u (w .liquid-done) n .years .enclosed))
+      (enclosed-take smoothingYear (quotes-enclosed s u (w .liquid-done) n .years .enclosed)))
 
   -- a year's low and high on the list
   low-at : (t : ℕ) → lowOf c t ≡ getD (w .years) (t - 1) (pair 0 0) .low
-  low-at t = rw (w .is) (map-all (λ p. p .low) (w .years) (t - 1) (pair 0 0))
+  low-at t = rw (w .is) (List·getD-map (λ p. p .low) (w .years) (t - 1) (pair 0 0))
 
   high-at : (t : ℕ) → highOf c t ≡ getD (w .years) (t - 1) (pair 0 0) .high
-  high-at t = rw (w .is) (map-all (λ p. p .high) (w .years) (t - 1) (pair 0 0))
+  high-at t = rw (w .is) (List·getD-map (λ p. p .high) (w .years) (t - 1) (pair 0 0))
 
   true-at : (n t : ℕ) → 1 ≤ t → t ≤ 150 → Encloses (pos (lowOf c t)) (pos (highOf c t)) (trueFactor n s t)
   unfolding trueFactor
@@ -181,11 +193,11 @@ module _ (s : Numbers) (u : Usable s) {c : Curve} (w : Worked s c) where
 
   highs-at-most : HighsAtMost (w .years)
   highs-at-most =
-      extended-at-most s u _ quoted steps (omega (arith, quoted-length)) (omega (arith, quoted-length))
+      extended-at-most s u _ quoted steps (omega (arith, twenty)) (omega (arith, twenty))
       (take-at-most smoothingYear (w .b .factors) (factors-at-most (bootstrap-bounded _ (w .liquid-done) .factors)))
 
   narrow : (i : ℕ) → i < 150 → getD (w .years) i (pair 0 0) .high ≤ getD (w .years) i (pair 0 0) .low + s .limit
-  narrow = extended-narrow s u _ quoted steps (omega (arith, quoted-length)) (omega (arith, quoted-length))
+  narrow = extended-narrow s u _ quoted steps (omega (arith, twenty)) (omega (arith, twenty))
 
   holds : CurveHolds s c
   holds =

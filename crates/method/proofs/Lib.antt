@@ -30,6 +30,8 @@ pub mod TrialLaws
 pub mod HalvingLaws
 pub mod QuotesLaws
 pub mod QuotesBounds
+pub mod Used
+pub mod Dropped
 pub mod Zips
 pub mod Filling
 pub mod Enclosure

@@ -18,9 +18,11 @@ use Rattle.method.specs.Sheet.{layoutOf, sizeOf, Slot, slotsOf, firstFai
 use Rattle.method.specs.Quotes.{annuity, parLow, parHigh, trial, highestFactor, nextYear, quotedYear, insideYears, Bootstrap, gapYears}
 use Rattle.method.specs.Quotes.{Quote, parYear, yearsTo, bootstrapFrom, quotesOf, bootstrap}
 use Rattle.method.specs.Extrapolation.{weights, forward, step, extrapolate, firstTooWide}
-use Rattle.method.specs.Curve.{factorOf, withinLimit, extended, curveOf, answer, smoothingYear}
+use Rattle.method.specs.Curve.{usedBy, usedQuotes, factorOf, withinLimit, extended, curveOf, answer, smoothingYear}
+use Rattle.method.specs.Ranges.{climbs}
 use Rattle.method.proofs.QuotesLaws.{endsPass, inside, years-cases}
-use Rattle.method.proofs.QuotesBounds.{next-length, inside-length, climbs, maturities-climb, climbs-more, climbs-within, years-length}
+use Rattle.method.proofs.QuotesBounds.{next-length, inside-length, climbs-more, climbs-within, years-length}
+use Rattle.method.proofs.Used.{kept-quotes, usedMaturities, used-climb}
 use Rattle.method.proofs.Slots.{slots-most}
 use Rattle.method.proofs.Weights.{weights-most}
 use Rattle.method.proofs.Step.{extrapolate-length}
@@ -109,7 +111,7 @@ years-place q b h l =
     (λ k next. rw next (par-place (q .rate) b (omega arith)))
     (λ k gap. rw gap (gap-place _ (q .rate) b (omega arith) (omega arith)))
 
--- the maturities climb to 50, however many of them have a rate
+-- the maturities climb to at most 50, however many of them have a rate
 from-place : (ms : List ℕ) (rs : List ℤ) (b : Bootstrap) → climbs (length (b .factors)) (length (b .yearlyFactors)) ms ≡ true →
     place (bootstrapFrom (quotesOf ms rs) b) ≤ 50
 unfolding bootstrapFrom quotesOf
@@ -121,9 +123,9 @@ from-place (m ∷ ms) (r ∷ rs) b climb =
     bind-place (yearsTo q b) _ (years-place q b rises (climbs-within m _ ms later .0))
     λ c e. let (years, gaps) = years-length q b rises e in from-place ms rs c (rw (years, gaps) later)
 
-pub bootstrap-place : (rs : List ℤ) → place (bootstrap (quotesOf maturities rs)) ≤ 50
+pub bootstrap-place : (n : Numbers) → place (bootstrap (usedQuotes n)) ≤ 50
 unfolding bootstrap
-bootstrap-place rs = from-place maturities rs _ maturities-climb
+bootstrap-place n = rw (kept-quotes (usedBy n) maturities (n .rates)) (from-place (usedMaturities (n .volumes)) _ _ (used-climb (n .volumes)))
 
 -- ---- ground 8 past the smoothing year, and ground 10
 
@@ -149,7 +151,7 @@ extended-place n f quoted short =
 pub curve-place : (n : Numbers) → place (curveOf n) ≤ 150
 unfolding curveOf
 curve-place n =
-    bind-place (bootstrap (quotesOf maturities (n .rates))) _ (omega (arith, bootstrap-place (n .rates)))
+    bind-place (bootstrap (usedQuotes n)) _ (omega (arith, bootstrap-place n))
     λ b d.
     let short : length (take smoothingYear (b .factors)) ≤ 150 = rw length-take (omega arith) in
     bind-place (extended n _ (take smoothingYear (b .factors))) _ (extended-place n _ (take smoothingYear (b .factors)) short)

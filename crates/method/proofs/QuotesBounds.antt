@@ -7,17 +7,17 @@ use native.Mathlib.Nat.{mul-le-mul, div-zero, zero-lt-suc}
 use native.Mathlib.Omega.{arith}
 use lib.Dec.{T, eqb, leb, ltb, leb→le, le→leb}
 use lib.IntN.{ℤ, pos, negsuc, natAbs}
-use lib.ListN.{length, length-append, getD}
+use lib.ListN.{length, length-append, drop, getD}
 use lib.Signed.{leZ, nonNeg, _≤ℤ_, ≤ℤ-refl, leZ-yes}
-use borrow.Author.Tests.{leb-true, ltb-true, eqb-true, eq-eqb, ne-eqb}
+use borrow.Author.Tests.{leb-true, ltb-true, eq-eqb, ne-eqb}
 use Rattle.fraction.specs.Fraction.{ℚ, natℚ, intℚ, _-ℚ_, _*ℚ_, _÷_}
 use Rattle.fraction.specs.Rounding.{U, floor, ceiling, ceilDiv, Encloses}
 use Rattle.fraction.proofs.Enclosure.{encloses-exact, encloses-ordered, encloses-widen, encloses--}
 use Rattle.fraction.proofs.Enclosure.{encloses-times-nonNegative, encloses-times-nonPositive, encloses-÷}
 use Rattle.method.specs.Units.{Pair, pair, parValue}
 use Rattle.method.specs.Grounds.{done}
-use Rattle.method.specs.Sheet.{total, maturities}
-use Rattle.method.specs.Quotes.{Gap, annuity, trial, surelyNotAbove, surelyNotBelow, lowX, highX, lowerEnd, upperEnd}
+use Rattle.method.specs.Sheet.{total}
+use Rattle.method.specs.Quotes.{Gap, annuity, trial, lastOf, surelyNotAbove, surelyNotBelow, lowX, highX, lowerEnd, upperEnd}
 use Rattle.method.specs.Quotes.{highestFactor, parNumerator, parDenominator, parLow, parHigh, nextYear, quotedYear, insideYears}
 use Rattle.method.specs.Quotes.{Bootstrap, lastYear, gapAfter, gapYears, Quote, yearsTo, bootstrapFrom, quotesOf, bootstrap}
 use Rattle.method.proofs.TrialLaws.{Ordered, down-up}
@@ -25,7 +25,7 @@ use Rattle.method.proofs.HalvingLaws.{InOrder, lowX-within, highX-withi
 use Rattle.method.proofs.Outcome.{done-injective, bind-done, both-true}
 use Rattle.method.proofs.QuotesLaws.{quoted-next, inside-none, inside-more, next-done, inside, endsPass, gap-inverse}
 use Rattle.method.proofs.QuotesLaws.{par-inverse, years-cases, from-none, from-cons, quotes-none, quotes-more, bootstrap-from}
-use Rattle.method.specs.Ranges.{Each, none, more, Factor, YearlyFactor, gapsWith}
+use Rattle.method.specs.Ranges.{Each, none, more, Factor, YearlyFactor, gapsWith, climbs}
 
 -- ---- a property of every pair
 
@@ -38,6 +38,11 @@ module _ {P : Pair → Type 0} where
   each-at k d none h = absurd (omega arith)
   each-at zero d (more q e) h = q
   each-at (suc k) d (more q e) h = each-at k d e (omega arith)
+
+  pub each-drop : {ps : List Pair} (k : ℕ) → Each P ps → Each P (drop k ps)
+  each-drop zero e = e
+  each-drop (suc k) none = none
+  each-drop (suc k) (more p e) = each-drop k e
 
 -- ---- A, and the factor by par
 
@@ -192,26 +197,18 @@ from-bounded (q ∷ qs) b d e =
 pub bootstrap-bounded : (qs : List Quote) {b : Bootstrap} → bootstrap qs ≡ done b → Bounded b
 bootstrap-bounded qs d = from-bounded qs _ (sym (bootstrap-from qs) ∙ d) (record { factors = none; yearly = none })
 
--- ---- how many years and gaps: maturities that climb from n years and g gaps, by at most 10 years each, to 50 years and 7 gaps
+-- ---- how many years and gaps: maturities that climb from n years and g gaps
 
-unfoldable pub climbs : ℕ → ℕ → List ℕ → Bool
-climbs n g [] = eqb n 50 && eqb g 7
-climbs n g (m ∷ ms) = ltb n m && (leb (m - n) 10 && climbs m (gapsWith (m - n) g) ms)
-
-pub maturities-climb : climbs 0 0 maturities ≡ true
-unfolding climbs maturities
-maturities-climb = refl
-
-pub climbs-end : (n g : ℕ) → climbs n g [] ≡ true → (n ≡ 50) × (g ≡ 7)
+pub climbs-end : (n g : ℕ) → climbs n g [] ≡ true → (n ≤ 50) × (g ≤ 7)
 unfolding climbs
-climbs-end n g h = let (a, b) = both-true (eqb n 50) (eqb g 7) h in (eqb-true n 50 a, eqb-true g 7 b)
+climbs-end n g h = let (a, b) = both-true (leb n 50) (leb g 7) h in (leb-true n 50 a, leb-true g 7 b)
 
-pub climbs-more : (n g m : ℕ) (ms : List ℕ) → climbs n g (m ∷ ms) ≡ true → (n < m) × (m - n ≤ 10) × (climbs m (gapsWith (m - n) g) ms ≡ true)
+pub climbs-more : (n g m : ℕ) (ms : List ℕ) → climbs n g (m ∷ ms) ≡ true → (n < m) × (m - n ≤ 30) × (climbs m (gapsWith (m - n) g) ms ≡ true)
 unfolding climbs
 climbs-more n g m ms h =
-    let (a, rest) = both-true (ltb n m) (leb (m - n) 10 && climbs m (gapsWith (m - n) g) ms) h in
-    let (b, c) = both-true (leb (m - n) 10) (climbs m (gapsWith (m - n) g) ms) rest in
-    (ltb-true n m a, leb-true (m - n) 10 b, c)
+    let (a, rest) = both-true (ltb n m) (leb (m - n) 30 && climbs m (gapsWith (m - n) g) ms) h in
+    let (b, c) = both-true (leb (m - n) 30) (climbs m (gapsWith (m - n) g) ms) rest in
+    (ltb-true n m a, leb-true (m - n) 30 b, c)
 
 gapsWith-≥ : (k g : ℕ) → g ≤ gapsWith k g
 gapsWith-≥ k g = go (eqb k 1)
@@ -221,7 +218,7 @@ gapsWith-≥ k g = go (eqb k 1)
     go false = omega arith
 
 pub climbs-within : (n g : ℕ) (ms : List ℕ) → climbs n g ms ≡ true → (n ≤ 50) × (g ≤ 7)
-climbs-within n g [] h = omega (arith, climbs-end n g h)
+climbs-within n g [] h = climbs-end n g h
 climbs-within n g (m ∷ ms) h =
     let (rises, short, rest) = climbs-more n g m ms h in
     omega (arith, climbs-within m (gapsWith (m - n) g) ms rest, gapsWith-≥ (m - n) g)
@@ -237,12 +234,19 @@ years-length q b h d =
     let e = sym gap ∙ d in
     (omega (arith, gap-length _ (q .rate) b e (omega arith)), rw (ne-eqb _ 1 k) (gap-count _ (q .rate) b e)))
 
+-- the gaps at the last of them
+unfoldable pub gapsFrom : ℕ → ℕ → List ℕ → ℕ
+gapsFrom n g [] = g
+gapsFrom n g (m ∷ ms) = gapsFrom m (gapsWith (m - n) g) ms
+
+-- the years end with the last maturity, and there are as many yearly factors as gaps
 pub from-length : (ms : List ℕ) (rs : List ℤ) (b : Bootstrap) {c : Bootstrap} → length rs ≡ length ms →
-    climbs (length (b .factors)) (length (b .yearlyFactors)) ms ≡ true →
-    bootstrapFrom (quotesOf ms rs) b ≡ done c → (length (c .factors) ≡ 50) × (length (c .yearlyFactors) ≡ 7)
+    climbs (length (b .factors)) (length (b .yearlyFactors)) ms ≡ true → bootstrapFrom (quotesOf ms rs) b ≡ done c →
+    (length (c .factors) ≡ lastOf (length (b .factors)) ms) × (length (c .yearlyFactors) ≡ gapsFrom (length (b .factors)) (length (b .yearlyFactors)) ms)
+unfolding lastOf gapsFrom
 from-length [] rs b same climb d =
     let e = done-injective (sym (from-none b) ∙ (rw (quotes-none rs) at d)) in
-    rw (← e) (climbs-end _ _ climb)
+    rw (← e) (refl, refl)
 from-length (m ∷ ms) [] b same climb d = absurd (omega arith)
 from-length (m ∷ ms) (r ∷ rs) b same climb d =
     let q : Quote = record { maturity = m; rate = r } in
@@ -250,9 +254,8 @@ from-length (m ∷ ms) (r ∷ rs) b same climb d =
     let (c, first, rest) = bind-done (yearsTo q b) (bootstrapFrom (quotesOf ms rs)) steps in
     let (rises, short, climbs) = climbs-more _ _ m ms climb in
     let (years, gaps) = years-length q b rises first in
-    from-length ms rs c (omega arith) (rw (years, gaps) climbs) rest
+    rw (years, gaps) at (from-length ms rs c (omega arith) (rw (years, gaps) climbs) rest)
 
-pub bootstrap-length : (rs : List ℤ) {b : Bootstrap} → length rs ≡ 17 → bootstrap (quotesOf maturities rs) ≡ done b →
-    (length (b .factors) ≡ 50) × (length (b .yearlyFactors) ≡ 7)
-unfolding maturities
-bootstrap-length rs same d = from-length maturities rs _ same maturities-climb (sym (bootstrap-from _) ∙ d)
+pub bootstrap-length : (ms : List ℕ) (rs : List ℤ) {b : Bootstrap} → length rs ≡ length ms → climbs 0 0 ms ≡ true → bootstrap (quotesOf ms rs) ≡ done b →
+    (length (b .factors) ≡ lastOf 0 ms) × (length (b .yearlyFactors) ≡ gapsFrom 0 0 ms)
+bootstrap-length ms rs same climb d = from-length ms rs _ same climb (sym (bootstrap-from _) ∙ d)

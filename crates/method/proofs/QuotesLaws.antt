@@ -129,6 +129,12 @@ pub quotes-more : (m : ℕ) (ms : List ℕ) (r : ℤ) (rs : List ℤ) → quotes
 unfolding quotesOf
 quotes-more m ms r rs = refl
 
+pub quotes-length : (ms : List ℕ) (rs : List ℤ) → length rs ≡ length ms → length (quotesOf ms rs) ≡ length ms
+unfolding quotesOf
+quotes-length [] rs e = refl
+quotes-length (m ∷ ms) [] e = e
+quotes-length (m ∷ ms) (r ∷ rs) e = ap suc (quotes-length ms rs (omega arith))
+
 pub from-none : (b : Bootstrap) → bootstrapFrom [] b ≡ done b
 unfolding bootstrapFrom
 from-none b = refl

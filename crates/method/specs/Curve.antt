@@ -1,13 +1,15 @@
 -- The answer of a sheet: the first ground among 1 to 4 and 7 to 10 that applies, or the curve. (5 and 6 are the book's.)
-use mathlib.Core.List.{List, _++_, map}
+use mathlib.Core.Bool.{Bool, cond}
+use mathlib.Core.List.{List, [], _∷_, _++_, map}
 use Prim.Native.Nat.{ℕ, _+_, _-_}
 use lib.Dec.{eqb}
 use lib.IntN.{pos}
 use lib.ListN.{length, take, drop, getD}
-use Rattle.method.specs.Units.{Pair, SignedPair}
+use Rattle.fraction.specs.Rounding.{U}
+use Rattle.method.specs.Units.{Pair, pair, SignedPair}
 use Rattle.method.specs.Grounds.{bandTooWide, Outcome, done, _>>=_, demand}
 use Rattle.method.specs.Sheet.{Numbers, readSheet, maturities}
-use Rattle.method.specs.Quotes.{Bootstrap, bootstrap, quotesOf, lastYear}
+use Rattle.method.specs.Quotes.{Bootstrap, used, kept, Quote, bootstrap, quotesOf, lastYear}
 use Rattle.method.specs.Series.{gapForward, ultimateForward}
 use Rattle.method.specs.Extrapolation.{llfr, convergenceFactor, weights, extrapolate, firstTooWide}
 
@@ -21,13 +23,27 @@ pub record Curve : Type 0 where
 abbrev pub smoothingYear : ℕ
 smoothingYear = 20
 
--- g1 to g5: the forwards of gaps 15-20, 20-25, 25-30, 30-40, 40-50, the last five
-abbrev pub gapForwards : Bootstrap → List SignedPair
-gapForwards b = map gapForward (drop 2 (b .yearlyFactors))
-
 -- the 20-year rate's place among the quotes
 abbrev pub smoothingIndex : ℕ
 smoothingIndex = 12
+
+-- which quotes a sheet's volumes leave
+abbrev pub usedBy : Numbers → List Bool
+usedBy n = used smoothingIndex (n .volumes)
+
+abbrev pub usedQuotes : Numbers → List Quote
+usedQuotes n = kept (usedBy n) (quotesOf maturities (n .rates))
+
+-- Each of 15-20, 20-25, 25-30, 30-40, 40-50 lies in one used gap, and has its x: from one to the next the gaps step on where the quote
+-- between them is used. Past the last used quote there is no gap and no volume, and so no weight on what stands there.
+unfoldable pub spread : {A : Type 0} → A → List Bool → List A → List A
+spread d [] xs = []
+spread d (u ∷ us) [] = d ∷ spread d us []
+spread d (u ∷ us) (x ∷ xs) = x ∷ spread d us (cond u xs (x ∷ xs))
+
+-- g1 to g5: their forwards
+abbrev pub gapForwards : Numbers → Bootstrap → List SignedPair
+gapForwards n b = map gapForward (spread (pair U U) (drop smoothingIndex (usedBy n)) (drop 2 (b .yearlyFactors)))
 
 -- the sheet's convergence factor
 unfoldable pub factorOf : Numbers → ℕ
@@ -53,8 +69,8 @@ curveWith n years = record { month = n .month; limit = n .limit; lows = map (λ 
 -- grounds 7 to 10
 unfoldable pub curveOf : Numbers → Outcome Curve
 curveOf n = do
-  b ← bootstrap (quotesOf maturities (n .rates))
-  years ← extended n (llfr (n .volumes) (gapForwards b)) (take smoothingYear (b .factors))
+  b ← bootstrap (usedQuotes n)
+  years ← extended n (llfr (n .volumes) (gapForwards n b)) (take smoothingYear (b .factors))
   done (curveWith n years)
 
 unfoldable pub answer : List ℕ → Outcome Curve

@@ -1,4 +1,4 @@
--- SPECIFICATION 12: the figures marked *, those marked +, and those of the phase-in, each as one list.
+-- SPECIFICATION 12: the figures marked *, those marked +, those of the phase-in and those of dropped quotes, each as one list.
 use mathlib.Core.Path.{_≡_}
 use mathlib.Core.List.{List, [], _∷_, _++_, map}
 use Prim.Native.Nat.{ℕ, zero, suc, _+_, _-_}
@@ -63,6 +63,22 @@ november = sheetOf 0 novemberRates (14 ∷ 5 ∷ 40 ∷ 6 ∷ 8 ∷ []) 360 100_
 -- with a 26th record
 abbrev pub phased : List ℕ → ℕ → List ℕ
 phased s x = s ++ 0x06 ∷ bytes2 x
+
+-- a sheet of rising rates, with these volumes
+abbrev pub risingRates : List ℕ
+risingRates =
+    500 ∷ 700 ∷ 900 ∷ 1_100 ∷ 1_300 ∷ 1_500 ∷ 1_700 ∷ 1_850 ∷ 2_000 ∷ 2_100 ∷ 2_250 ∷ 2_400 ∷ 2_500 ∷ 2_550 ∷ 2_580 ∷ 2_590 ∷ 2_580 ∷ []
+
+abbrev pub tradedAs : List ℕ → List ℕ → List ℕ
+tradedAs rates volumes = sheetOf 0 rates volumes 345 100_000
+
+-- 3,000 but for the 25-year rate
+abbrev pub highAt25 : ℕ → List ℕ
+highAt25 rate = replicate 13 3_000 ++ rate ∷ replicate 3 3_000
+
+-- the 25-year quote named as one of 26
+abbrev pub renamed25 : List ℕ → List ℕ
+renamed25 s = take 56 s ++ 26 ∷ drop 57 s
 
 -- ---- what is read off an answer, as numbers
 
@@ -158,4 +174,27 @@ phaseInFigures =
     ∷ (answerOf (answer (november ++ 0x07 ∷ bytes2 20_000)) is (2 ∷ 26 ∷ []))
     ∷ (answerOf (answer (phased november 9_999)) is (3 ∷ 26 ∷ []))
     ∷ (answerOf (answer (phased november 20_001)) is (3 ∷ 26 ∷ []))
+    ∷ []
+
+-- those of dropped quotes
+unfoldable pub droppedFigures : List Figure
+droppedFigures =
+    -- year 21 with volume at 20 and 50, at 20 and 30, at 20 alone; year 150 of the first
+    (ends (yearsOf 21 1 (answer (tradedAs risingRates (1 ∷ 0 ∷ 0 ∷ 0 ∷ 1 ∷ [])))) is (584_050_196 ∷ 584_050_213 ∷ []))
+    ∷ (ends (yearsOf 21 1 (answer (tradedAs risingRates (1 ∷ 0 ∷ 1 ∷ 0 ∷ 0 ∷ [])))) is (583_661_829 ∷ 583_661_847 ∷ []))
+    ∷ (ends (yearsOf 21 1 (answer (tradedAs risingRates (1 ∷ 0 ∷ 0 ∷ 0 ∷ 0 ∷ [])))) is (583_457_516 ∷ 583_457_533 ∷ []))
+    ∷ (ends (yearsOf 150 1 (answer (tradedAs risingRates (1 ∷ 0 ∷ 0 ∷ 0 ∷ 1 ∷ [])))) is (301_117_935 ∷ 301_118_796 ∷ []))
+    -- a 25-year rate of 12,000 fails 9, and where it is dropped does nothing; so does one of 50 years where 40 is dropped
+    ∷ (answerOf (answer (tradedAs (highAt25 12_000) (replicate 5 1))) is (9 ∷ 25 ∷ []))
+    ∷ (ends (yearsOf 150 1 (answer (tradedAs (highAt25 12_000) (1 ∷ 0 ∷ replicate 3 1)))) is (272_517_314 ∷ 272_518_113 ∷ []))
+    ∷ (answerOf (answer (tradedAs (replicate 16 3_000 ++ 12_000 ∷ []) (1 ∷ 1 ∷ 1 ∷ 0 ∷ 1 ∷ []))) is (9 ∷ 50 ∷ []))
+    -- rates below 0, over a gap of thirty years; all at -2,000, with it and without
+    ∷ (ends (yearsOf 20 1 (answer (tradedAs (replicate 17 (minus 500)) (1 ∷ 0 ∷ 0 ∷ 0 ∷ 1 ∷ [])))) is (1_105_448_169 ∷ 1_105_448_171 ∷ []))
+    ∷ (ends (yearsOf 150 1 (answer (tradedAs (replicate 17 (minus 500)) (1 ∷ 0 ∷ 0 ∷ 0 ∷ 1 ∷ [])))) is (768_808_537 ∷ 768_810_555 ∷ []))
+    ∷ (answerOf (answer (tradedAs (replicate 17 minus2000) (1 ∷ 0 ∷ 0 ∷ 0 ∷ 1 ∷ []))) is (8 ∷ 35 ∷ []))
+    ∷ (answerOf (answer (tradedAs (replicate 17 minus2000) (1 ∷ 0 ∷ 0 ∷ 0 ∷ 0 ∷ []))) is (0 ∷ 0 ∷ []))
+    -- a dropped quote is tested like any other: the 25-year quote under another maturity, and beyond its range; no volume at all
+    ∷ (answerOf (answer (renamed25 (tradedAs risingRates (1 ∷ 0 ∷ 0 ∷ 0 ∷ 1 ∷ [])))) is (2 ∷ 15 ∷ []))
+    ∷ (answerOf (answer (tradedAs (highAt25 12_001) (1 ∷ 0 ∷ 0 ∷ 0 ∷ 1 ∷ []))) is (3 ∷ 15 ∷ []))
+    ∷ (answerOf (answer (tradedAs risingRates (replicate 5 0))) is (4 ∷ 0 ∷ []))
     ∷ []

@@ -1,10 +1,10 @@
 -- SPECIFICATION 3: factors from the quotes, with grounds 7, 8 and 9 on their years.
-use mathlib.Core.Bool.{Bool, cond, not, _&&_}
+use mathlib.Core.Bool.{Bool, true, cond, not, _&&_}
 use mathlib.Core.List.{List, [], _∷_, _++_, map}
 use Prim.Native.Nat.{ℕ, zero, suc, _+_, _*_, _-_, _/_}
 use lib.Dec.{leb, ltb, eqb}
 use lib.IntN.{ℤ, pos, negsuc, natAbs, _+ℤ_, _-ℤ_, _*ℤ_}
-use lib.ListN.{length}
+use lib.ListN.{length, drop, replicate}
 use lib.Signed.{leZ, nonNeg}
 use Rattle.fraction.specs.Rounding.{U, floor, ceiling, ceilDiv}
 use Rattle.method.specs.Units.{Pair, pair, rateUnit, parValue}
@@ -156,6 +156,21 @@ gapYears k r b = do
   inside ← insideYears (trial _/_ (t .low) (x .low) (k - 1)) (trial ceilDiv (t .high) (x .high) (k - 1)) ps
   factors ← quotedYear r inside
   done (record { factors = factors; yearlyFactors = b .yearlyFactors ++ x ∷ [] })
+
+-- ---- the quotes that are used
+
+-- a mark for each quote: all up to the smoothing year's, which is quote i from 0, are used; a later one where its maturity has volume.
+-- The first volume, the smoothing year's own, drops no quote.
+unfoldable pub used : ℕ → List ℕ → List Bool
+used i volumes = replicate (suc i) true ++ map (ltb 0) (drop 1 volumes)
+
+-- the entries that are marked
+unfoldable pub kept : {A : Type 0} → List Bool → List A → List A
+kept [] xs = []
+kept (u ∷ us) [] = []
+kept (u ∷ us) (x ∷ xs) = let rest = kept us xs in cond u (x ∷ rest) rest
+
+-- ---- the quotes in order
 
 -- a quote, and the years to its maturity: the next one by par, or a gap
 pub record Quote : Type 0 where

@@ -1,9 +1,9 @@
 -- The ranges that code above may count on: of a sheet's numbers, of factors and of yearly factors.
 use mathlib.Core.Path.{_≡_}
-use mathlib.Core.Bool.{cond}
+use mathlib.Core.Bool.{Bool, cond, _&&_}
 use mathlib.Core.List.{List, [], _∷_}
-use Prim.Native.Nat.{ℕ, _+_, _≤_, _<_}
-use lib.Dec.{eqb}
+use Prim.Native.Nat.{ℕ, _+_, _-_, _≤_, _<_}
+use lib.Dec.{eqb, leb, ltb}
 use lib.IntN.{ℤ, pos}
 use lib.ListN.{length, getD}
 use lib.Signed.{mag}
@@ -58,6 +58,11 @@ pub record YearlyFactor (p : Pair) : Type 0 where
 -- the gaps among the quotes, with one that is k years after the last: a gap unless it is the next year
 abbrev pub gapsWith : ℕ → ℕ → ℕ
 gapsWith k g = cond (eqb k 1) g (g + 1)
+
+-- maturities that rise from n years and g gaps on: by at most 30 years each, to at most 50 years and 7 gaps
+unfoldable pub climbs : ℕ → ℕ → List ℕ → Bool
+climbs n g [] = leb n 50 && leb g 7
+climbs n g (m ∷ ms) = ltb n m && (leb (m - n) 30 && climbs m (gapsWith (m - n) g) ms)
 
 -- ---- logarithms and growth, in billionths
 

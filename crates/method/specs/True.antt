@@ -1,13 +1,13 @@
 -- SPECIFICATION 6: the true curve of order n. No rounding, worked from the sheet's numbers alone, still in billionths. Written
 -- from the method paper and the phase-in paper, beside the computed curve and not by it; their names stand in the comments.
-use mathlib.Core.Bool.{Bool, cond}
+use mathlib.Core.Bool.{Bool, cond, _||_}
 use mathlib.Core.List.{List, [], _∷_, _++_, map}
 use Prim.Native.Nat.{ℕ, zero, suc, _+_, _*_, _-_, _^_}
-use lib.Dec.{eqb}
+use lib.Dec.{eqb, leb, ltb}
 use lib.IntN.{ℤ, pos}
 use lib.ListN.{length, take, drop, getD}
 use Rattle.fraction.specs.Fraction.{ℚ, leℚ, natℚ, intℚ, negℚ, _+ℚ_, _-ℚ_, _*ℚ_, _÷_, recip, powℚ, sumℚ}
-use Rattle.method.specs.Sheet.{Numbers, maturities}
+use Rattle.method.specs.Sheet.{Numbers, maturities, volumeMaturities}
 
 abbrev pub billion : ℚ
 billion = natℚ 1_000_000_000
@@ -104,6 +104,29 @@ liquidFrom n (m ∷ ms) (r ∷ rs) l = liquidFrom n ms rs (toMaturity n m r l)
 unfoldable pub liquid : ℕ → List ℕ → List ℤ → Liquid
 liquid n ms rs = liquidFrom n ms rs (record { factors = []; yearly = [] })
 
+-- ---- the maturities that are used: up to 20 years all, beyond them those with volume
+
+-- the volume at a maturity
+unfoldable pub tradedAt : ℕ → List ℕ → List ℕ → ℕ
+tradedAt m [] vs = 0
+tradedAt m (k ∷ ks) [] = 0
+tradedAt m (k ∷ ks) (v ∷ vs) = cond (eqb m k) v (tradedAt m ks vs)
+
+unfoldable pub isUsed : List ℕ → ℕ → Bool
+isUsed vs m = leb m 20 || ltb 0 (tradedAt m volumeMaturities vs)
+
+-- what stands beside the maturities that pass a test
+unfoldable pub beside : {A : Type 0} → (ℕ → Bool) → List ℕ → List A → List A
+beside p [] xs = []
+beside p (m ∷ ms) [] = []
+beside p (m ∷ ms) (x ∷ xs) = let rest = beside p ms xs in cond (p m) (x ∷ rest) rest
+
+-- the yearly factor of the years up to m: that of the first gap which ends there or later; 1 where there is none
+unfoldable pub yearlyTo : ℕ → List ℕ → List ℚ → ℚ
+yearlyTo m [] xs = billion
+yearlyTo m (e ∷ es) [] = billion
+yearlyTo m (e ∷ es) (x ∷ xs) = cond (leb m e) x (yearlyTo m es xs)
+
 -- ---- the last liquid forward rate: LLFR = sum of w_x f, w_x = V_x over the sum of all V
 
 -- f_{20,t} is the mean of the gaps' forwards, each year counted once
@@ -178,9 +201,11 @@ toLastYear n s f quoted =
 
 unfoldable pub trueCurve : ℕ → Numbers → List ℚ
 trueCurve n s =
-    let l = liquid n maturities (s .rates) in
-    let f = lastLiquidForward (s .volumes) (map (minusLog n) (drop 2 (l .yearly))) in
-    toLastYear n s f (take 20 (l .factors))
+    let ms = beside (isUsed (s .volumes)) maturities maturities in
+    let l = liquid n ms (beside (isUsed (s .volumes)) maturities (s .rates)) in
+    -- past ten years each used maturity ends a gap
+    let forwards = map (λ m. minusLog n (yearlyTo m (drop 10 ms) (l .yearly))) volumeMaturities in
+    toLastYear n s (lastLiquidForward (s .volumes) forwards) (take 20 (l .factors))
 
 -- the true factor of order n of a year, from 1
 unfoldable pub trueFactor : ℕ → Numbers → ℕ → ℚ

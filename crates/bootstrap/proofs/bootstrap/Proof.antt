@@ -4,29 +4,37 @@ use mathlib.Core.List.{List}
 use Prim.Native.Nat.{ℕ, _-_, _≤_, _<_}
 use native.Mathlib.Omega.{arith}
 use lib.IntN.{ℤ, pos}
-use lib.ListN.{length, getD}
+use lib.ListN.{length, take, getD}
+use lib.Seq.{length-take-le, getD-take}
 use lib.Signed.{mag}
 use mir.Syntax.{w64}
 use mir.ValLaws.{toZ-ofZ}
 use borrow.Author.Needs.{needs}
-use Rattle.method.specs.Sheet.{maturities}
 use Rattle.method.specs.Quotes.{yearsTo}
 use Rattle.grounds.specs.Verdicts.{asOutcome}
+use Rattle.bootstrap.specs.declared.Quotes.{Quotes}
 use Rattle.bootstrap.specs.declared.Liquid.{Liquid}
 use Rattle.bootstrap.specs.Liquids.{asBootstrap, asStep, nothing, Reaches, quote}
 use Rattle.bootstrap.proofs.Order.{rate-fits, narrow-read, Going, going-start, reaches, going-stops, going-on, going-ends}
 use Rattle.bootstrap.proofs.bootstrap.Statement.{statement}
 use Rattle.bootstrap.proofs.bootstrap.Tie as tie
 
-record Quoted (rates : List ℤ) (w : Liquid) (i : ℕ) : Type 0 where
-  long : length rates ≡ 17
-  going : Going rates w i
+-- as many as there are
+abbrev maturitiesOf : Quotes → List ℕ
+maturitiesOf q = take (q .count) (q .maturities)
+
+abbrev ratesOf : Quotes → List ℤ
+ratesOf q = take (q .count) (q .rates)
+
+record Quoted (q : Quotes) (w : Liquid) (i : ℕ) : Type 0 where
+  long : length (maturitiesOf q) ≡ q .count
+  going : Going (maturitiesOf q) (ratesOf q) w i
 
 abbrev Inv-loop : tie.InvT-loop
-Inv-loop rates w₀ i₀ w i = Quoted rates w i
+Inv-loop q w₀ i₀ w i = Quoted q w i
 
 abbrev μ-loop : tie.MeasureT-loop
-μ-loop rates w₀ i₀ w i = 17 - i
+μ-loop q w₀ i₀ w i = q .count - i
 
 fresh-requires : tie.Need-fresh-requires Inv-loop μ-loop
 fresh-requires c κs = search needs
@@ -34,33 +42,55 @@ fresh-requires c κs = search needs
 loop-holds : tie.Need-loop-holds Inv-loop μ-loop
 loop-holds c =
     let e = c .fresh .ensures in
-    record { long = search needs; going = going-start _ (c .fresh .result) (e .0) (e .1) (e .2) (e .3) }
-
-maturity-requires : tie.Need-maturity-requires Inv-loop μ-loop
-maturity-requires c κs = search needs
+    let q = c .before .args .t1 in
+    let p = c .before .pre in
+    let maturities : length (q .maturities) ≡ 17 = search needs in
+    let rates : length (q .rates) ≡ 17 = search needs in
+    let long = length-take-le (q .count) (q .maturities) (omega (arith, p .within)) in
+    let same = length-take-le (q .count) (q .rates) (omega (arith, p .within)) ∙ sym long in
+    record { long = long; going = going-start _ _ (c .fresh .result) same (p .climb) (e .0) (e .1) (e .2) (e .3) }
 
 mul-years-to : tie.Need-mul-years-to Inv-loop μ-loop
 mul-years-to c = search needs
 
-array-copy-out-years-to : tie.Need-array-copy-out-years-to Inv-loop μ-loop
-array-copy-out-years-to c = search needs
+element-copy-out-years-to : tie.Need-element-copy-out-years-to Inv-loop μ-loop
+element-copy-out-years-to c = omega (arith, c .loop-test .taken, c .before .before .before .pre .within)
 
--- the rate of quote i
-module _ (c : tie.After-years-to-arg Inv-loop μ-loop) where
+mul-years-to-2 : tie.Need-mul-years-to-2 Inv-loop μ-loop
+mul-years-to-2 c = search needs
+
+element-copy-out-years-to-2 : tie.Need-element-copy-out-years-to-2 Inv-loop μ-loop
+element-copy-out-years-to-2 c = omega (arith, c .before .loop-test .taken, c .before .before .before .before .pre .within)
+
+-- quote i
+module _ (c : tie.After-years-to-arg2 Inv-loop μ-loop) where
   abbrev at-loop : tie.At-loop Inv-loop μ-loop
   at-loop = c .before .before .before
 
   abbrev start : tie.Start Inv-loop μ-loop
   start = at-loop .before .before
 
+  abbrev quotes : Quotes
+  quotes = start .args .t1
+
+  abbrev index : ℕ
+  index = at-loop .loop .i
+
   abbrev rate : ℤ
-  rate = getD (start .args .t1) (at-loop .loop .i) (pos 0)
+  rate = getD (quotes .rates) index (pos 0)
+
+  early : index < length (maturitiesOf quotes)
+  early = omega (arith, at-loop .loop .inv .long, c .before .before .loop-test .taken)
+
+  -- it stands among the first, and in the array
+  maturity-is : getD (maturitiesOf quotes) index 0 ≡ getD (quotes .maturities) index 0
+  maturity-is = getD-take (quotes .count) (quotes .maturities) index 0 (omega (arith, c .before .before .loop-test .taken))
+
+  rate-is : getD (ratesOf quotes) index (pos 0) ≡ rate
+  rate-is = getD-take (quotes .count) (quotes .rates) index (pos 0) (omega (arith, c .before .before .loop-test .taken))
 
   small : mag rate ≤ 12_000
-  small = start .pre (at-loop .loop .i)
-
-  early : at-loop .loop .i < 17
-  early = c .before .before .loop-test .taken
+  small = rw (← rate-is) (start .pre .small index)
 
 cast-years-to : tie.Need-cast-years-to Inv-loop μ-loop
 cast-years-to c = rw (narrow-read (rate c) (small c)) (rate-fits (rate c) (small c))
@@ -68,7 +98,7 @@ cast-years-to c = rw (narrow-read (rate c) (small c)) (rate-fits (rate c) (small
 years-to-requires : tie.Need-years-to-requires Inv-loop μ-loop
 years-to-requires c κs =
     let g = at-loop c .loop .inv .going in
-    let reached = subst (Reaches (at-loop c .loop .liquid)) (sym (c .before .maturity .ensures)) (reaches g (early c)) in
+    let reached = subst (Reaches (at-loop c .loop .liquid)) (maturity-is c) (reaches g (early c)) in
     rw (narrow-read (rate c) (small c), toZ-ofZ w64 _ (rate-fits (rate c) (small c))) (g .sound, reached, small c)
 
 enum-told : tie.Need-enum-told Inv-loop μ-loop
@@ -82,12 +112,12 @@ fresh-requires-2 c κs = search needs
 
 -- the quote's years, as the definition works them
 stepped : (c : tie.After-years-to Inv-loop μ-loop) →
-    let l = at-loop (c .before) .loop in
-    asStep (c .years-to .result) ≡ yearsTo (quote (getD maturities (l .i) 0) (rate (c .before))) (asBootstrap (l .liquid))
+    let a = c .before in
+    let q = quote (getD (maturitiesOf (quotes a)) (index a) 0) (getD (ratesOf (quotes a)) (index a) (pos 0)) in
+    asStep (c .years-to .result) ≡ yearsTo q (asBootstrap (at-loop a .loop .liquid))
 stepped c =
     let a = c .before in
-    (rw (narrow-read (rate a) (small a), toZ-ofZ w64 _ (rate-fits (rate a) (small a))) at (c .years-to .ensures .0)) ∙
-    ap (λ (m : ℕ). yearsTo (quote m (rate a)) (asBootstrap (at-loop a .loop .liquid))) (a .before .maturity .ensures)
+    rw (maturity-is a, rate-is a) (rw (narrow-read (rate a) (small a), toZ-ofZ w64 _ (rate-fits (rate a) (small a))) at (c .years-to .ensures .0))
 
 returns : tie.Need-returns Inv-loop μ-loop
 returns c =
@@ -96,7 +126,7 @@ returns c =
     let a = y .before in
     let l = at-loop a .loop .inv in
     let v = y .years-to .result .verdict in
-    let stops = going-stops (l .going) (early a) (l .long) v (y .years-to .result .liquid) (stepped y) (told .enum-told2 .given .1) nothing in
+    let stops = going-stops (l .going) (early a) v (y .years-to .result .liquid) (stepped y) (told .enum-told2 .given .1) nothing in
     let f = c .fresh2 .ensures in
     (ap (asOutcome v) (f .0) ∙ stops .0, (f .0 ∙ stops .1, f .1))
 
@@ -111,12 +141,13 @@ loop-again c =
     let y = c .before .before .before in
     let a = y .before in
     let l = at-loop a .loop .inv in
-    record { long = l .long; going = going-on (l .going) (early a) (l .long) _ _ (stepped y) (c .enum-told .given .1) (y .years-to .ensures .1) }
+    record { long = l .long; going = going-on (l .going) (early a) _ _ (stepped y) (c .enum-told .given .1) (y .years-to .ensures .1) }
 
 returns-2 : tie.Need-returns-2 Inv-loop μ-loop
 returns-2 c =
-    let g = c .before .loop .inv .going in
-    let end : c .before .loop .i ≡ 17 = omega (arith, g .within, c .loop-test) in
+    let l = c .before .loop .inv in
+    let g = l .going in
+    let end : c .before .loop .i ≡ length (maturitiesOf (c .before .before .before .args .t1)) = omega (arith, l .long, g .within, c .loop-test) in
     let all = going-ends (rw end at g) in
     (sym all, (rw all, g .sound))
 
@@ -128,9 +159,10 @@ bootstrap-spec =
     μ-loop
     fresh-requires
     loop-holds
-    maturity-requires
     mul-years-to
-    array-copy-out-years-to
+    element-copy-out-years-to
+    mul-years-to-2
+    element-copy-out-years-to-2
     cast-years-to
     years-to-requires
     enum-told

@@ -1,12 +1,21 @@
--- Grounds 7 to 9 on the quotes, then the rest.
+-- Grounds 7 to 9 on the quotes that are used, then the rest.
+use mathlib.Core.Path.{_≡_, ap, _∙_}
+use Rattle.method.specs.Quotes.{bootstrap}
+use Rattle.method.specs.Curve.{usedQuotes}
+use Rattle.sheet.specs.Views.{asNumbers}
+use Rattle.bootstrap.specs.Liquids.{asBootstrap}
+use Rattle.grounds.specs.Verdicts.{asOutcome}
 use Rattle.grounds.proofs.Chain.{at-verdict, refused-alone}
 use Rattle.curve.proofs.Laws.{quotes-refused}
 use borrow.Author.Needs.{needs}
 use Rattle.curve.proofs.from_numbers.Statement.{statement}
 use Rattle.curve.proofs.from_numbers.Tie as tie
 
+select-requires : tie.Need-select-requires
+select-requires c κs = λ k. c .before .before .pre .rate-range k .small
+
 bootstrap-requires : tie.Need-bootstrap-requires
-bootstrap-requires c κs = λ k. c .before .pre .rate-range k .small
+bootstrap-requires c κs = c .select .ensures .1
 
 enum-told : tie.Need-enum-told
 enum-told c = search needs
@@ -17,19 +26,25 @@ enum-told-2 c = search needs
 unworked-requires : tie.Need-unworked-requires
 unworked-requires c κs = search needs
 
+-- the bootstrap, of the quotes that are used
+worked : (c : tie.After-bootstrap) →
+    let r = c .bootstrap .result in
+    asOutcome (r .verdict) (asBootstrap (r .liquid)) ≡ bootstrap (usedQuotes (asNumbers (c .before .before .before .before .args .n)))
+worked c = c .bootstrap .ensures .0 ∙ ap bootstrap (c .before .select .ensures .0)
+
 returns : tie.Need-returns
 returns c =
     let told = c .before .enum-told2 .given .1 in
-    let quotes = c .before .before .before .bootstrap in
-    refused-alone (c .unworked .ensures .0) told (c .unworked .ensures .1) (quotes-refused _ (at-verdict _ told (quotes .ensures .0)))
+    let at-quotes = c .before .before .before in
+    refused-alone (c .unworked .ensures .0) told (c .unworked .ensures .1) (quotes-refused _ (at-verdict _ told (worked at-quotes)))
 
 from-quotes-requires : tie.Need-from-quotes-requires
 from-quotes-requires c κs =
     let at-quotes = c .before .before .before in
     let quotes = at-quotes .bootstrap in
     record {
-      numbers = at-quotes .before .before .pre;
-      worked = at-verdict _ (c .before .enum-told .given .1) (quotes .ensures .0);
+      numbers = at-quotes .before .before .before .before .pre;
+      worked = at-verdict _ (c .before .enum-told .given .1) (worked at-quotes);
       sound = quotes .ensures .1 .1;
     }
 
@@ -40,6 +55,7 @@ pub from-numbers-spec : {M : Type 1} → statement M
 from-numbers-spec =
     tie.close
     (tie.spec
+    select-requires
     bootstrap-requires
     enum-told
     enum-told-2
