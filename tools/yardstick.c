@@ -2,9 +2,10 @@
  * desk's records from standard input and prints the desk's lines. Nothing is proved of it and nothing else uses it:
  * tools/bench compares its lines, then its time. Numbers in brackets are sections.
  *
- * Every number fits in 64 bits. A factor is at most 2 U by ground 8, and at most 2 U x 1.1^10 inside a trial, so that its
- * product with a yearly factor stays below 6 x 10^18. A swap's value stays below 10^16, and the weighed sum of forwards
- * below 2 x 10^16. */
+ * Every number fits in 64 bits. A factor is at most 2 U by ground 8, and at most 2 U x 1.1^10 inside a trial of ten years,
+ * so that its product with a yearly factor stays below 6 x 10^18. Over dropped maturities a trial runs for up to thirty
+ * years, to 2 U x 1.1^30; its products are worked in two parts. A swap's value stays below 10^16, and the weighed sum of
+ * forwards below 2 x 10^16. */
 #include <math.h>
 #include <stdbool.h>
 #include <stdint.h>
@@ -71,6 +72,12 @@ static int64_t over_up(int64_t numerator, int64_t divisor) { return over_down(nu
 static int64_t times_down(int64_t a, int64_t b) { return over_down(a * b, U); }
 
 static int64_t times_up(int64_t a, int64_t b) { return over_up(a * b, U); }
+
+/* The same for an a of many U, whose product may pass 64 bits: the part from whole U needs no rounding. */
+
+static int64_t long_times_down(int64_t a, int64_t b) { return a / U * b + times_down(a % U, b); }
+
+static int64_t long_times_up(int64_t a, int64_t b) { return a / U * b + times_up(a % U, b); }
 
 /* The sheet [2]. */
 
@@ -153,7 +160,32 @@ typedef struct {
     int64_t last, sum;
 } Trial;
 
+/* Longer gaps run on over a dropped maturity. */
+enum { LONGEST_QUOTED_GAP = 10 };
+
+/* Whether factors may come to many U: at a yearly factor up to U they only fall. */
+static bool grows_long(const Gap *gap, int64_t x) { return gap->years > LONGEST_QUOTED_GAP && x > U; }
+
+static Trial long_lows(const Gap *gap, int64_t x) {
+    Trial trial = {gap->start.low, gap->sum.low};
+    for (int j = 0; j < gap->years; j++) {
+        trial.last = long_times_down(trial.last, x);
+        trial.sum += trial.last;
+    }
+    return trial;
+}
+
+static Trial long_highs(const Gap *gap, int64_t x) {
+    Trial trial = {gap->start.high, gap->sum.high};
+    for (int j = 0; j < gap->years; j++) {
+        trial.last = long_times_up(trial.last, x);
+        trial.sum += trial.last;
+    }
+    return trial;
+}
+
 static Trial lows(const Gap *gap, int64_t x) {
+    if (grows_long(gap, x)) return long_lows(gap, x);
     Trial trial = {gap->start.low, gap->sum.low};
     for (int j = 0; j < gap->years; j++) {
         trial.last = times_down(trial.last, x);
@@ -163,6 +195,7 @@ static Trial lows(const Gap *gap, int64_t x) {
 }
 
 static Trial highs(const Gap *gap, int64_t x) {
+    if (grows_long(gap, x)) return long_highs(gap, x);
     Trial trial = {gap->start.high, gap->sum.high};
     for (int j = 0; j < gap->years; j++) {
         trial.last = times_up(trial.last, x);
@@ -211,9 +244,10 @@ static int64_t high_x(const Gap *gap) {
     return high;
 }
 
-/* Years 1 to 50 as far as they are worked. */
+/* Years 1 to 50 as far as they are worked. The forwards are those of gaps 15-20, 20-25, 25-30, 30-40 and 40-50, as far as
+ * they are worked: a gap that runs on has the same one in each of these. */
 typedef struct {
-    int worked;
+    int worked, forwards_worked;
     Pair factors[LAST_QUOTE + 1], sum, forwards[VOLUMES];
 } Quoted;
 
@@ -279,11 +313,15 @@ static int64_t growth_high(int64_t y) {
     return sum + 1;
 }
 
+/* A quote beyond 20 without volume is not used. */
+static bool dropped(const Sheet *sheet, int quote) { return quote > QUOTE_20 && sheet->volumes[quote - QUOTE_20] == 0; }
+
 static Ground work_quotes(const Sheet *sheet, Quoted *quoted) {
     Ground found = none;
-    quoted->worked = 0;
+    quoted->worked = quoted->forwards_worked = 0;
     quoted->sum.low = quoted->sum.high = 0;
     for (int j = 0; j < QUOTES; j++) {
+        if (dropped(sheet, j)) continue;
         int years = maturities[j] - quoted->worked;
         if (years > 1) {
             Pair x;
@@ -291,12 +329,14 @@ static Ground work_quotes(const Sheet *sheet, Quoted *quoted) {
             if (found.number) return found;
             if (j >= FIRST_FORWARD) {
                 Pair forward = {log_low(x.high), log_high(x.low)};
-                quoted->forwards[j - FIRST_FORWARD] = forward;
+                while (quoted->forwards_worked <= j - FIRST_FORWARD) quoted->forwards[quoted->forwards_worked++] = forward;
             }
         }
         found = add_year(quoted, by_par(sheet->rates[j], quoted->sum));
         if (found.number) return found;
     }
+    /* The rest has no weight. */
+    while (quoted->forwards_worked < VOLUMES) quoted->forwards[quoted->forwards_worked++] = (Pair){0, 0};
     return none;
 }
 

@@ -1,6 +1,7 @@
-//! Discount factors of years 1 to 50 from the par rates, with grounds 7 to 9.
+//! Discount factors from the par rates that are used, up to year 50, with grounds 7 to 9.
 
 use crate::enclosure::{div_down, div_up, Enclosure, RATE_UNIT, U};
+use crate::forwards::{YearForwards, FIRST_FORWARD_YEAR};
 use crate::refusal::Refusal;
 use crate::series::neg_log;
 use crate::sheet::{Sheet, MATURITIES, QUOTE_20};
@@ -15,15 +16,29 @@ const HIGHEST_YEARLY_FACTOR: i128 = 1_100_000_000;
 /// The largest allowed high of a discount factor.
 pub const LARGEST_HIGH: i128 = 2 * U;
 
-/// The gap that ends at maturity 20 is the first whose forward is kept.
-pub const FIRST_KEPT_GAP: usize = QUOTE_20;
-
 /// The result of the bootstrap.
 pub struct Bootstrap {
-    /// Discount factors of years 1 to 50.
+    /// Discount factors of year 1 to the last maturity whose quote is used, 20 to 50.
     pub factors: Vec<Enclosure>,
-    /// Forwards of gaps 15-20, 20-25, 25-30, 30-40 and 40-50.
-    pub forwards: [Enclosure; 5],
+    /// Forwards of the same years from 16 on.
+    pub forwards: YearForwards,
+}
+
+/// A quote that is used.
+#[derive(Clone, Copy, Debug, PartialEq, Eq)]
+pub struct Quote {
+    pub maturity: usize,
+    pub rate: i128,
+}
+
+/// The quotes that are used, by maturity. Beyond 20 one without volume is dropped; 20 itself
+/// never is, since its volume is no more than a weight.
+pub fn used_quotes(sheet: &Sheet) -> impl Iterator<Item = Quote> + '_ {
+    let used = |&i: &usize| i <= QUOTE_20 || sheet.volumes[i - QUOTE_20] > 0;
+    (0..MATURITIES.len()).filter(used).map(|i| Quote {
+        maturity: usize::from(MATURITIES[i]),
+        rate: i128::from(sheet.rates[i]),
+    })
 }
 
 /// The years worked so far and the sum of their factors.
@@ -32,7 +47,7 @@ struct Years {
     annuity: Enclosure,
 }
 
-/// A gap of years between two quoted maturities.
+/// A gap of years between the maturities of two used quotes, one next to the other.
 struct Gap {
     years: usize,
     rate: i128,
@@ -52,14 +67,13 @@ pub fn bootstrap(sheet: &Sheet) -> Result<Bootstrap, Refusal> {
         factors: Vec::new(),
         annuity: Enclosure::ZERO,
     };
-    let mut forwards = [Enclosure::ZERO; 5];
-    for (i, &maturity) in MATURITIES.iter().enumerate() {
-        let rate = i128::from(sheet.rates[i]);
-        let gap_years = usize::from(maturity) - years.factors.len();
+    let mut forwards = YearForwards::default();
+    for Quote { maturity, rate } in used_quotes(sheet) {
+        let gap_years = maturity - years.factors.len();
         if gap_years > 1 {
             let yearly = years.fill_gap(gap_years, rate)?;
-            if i >= FIRST_KEPT_GAP {
-                forwards[i - FIRST_KEPT_GAP] = forward(yearly);
+            if maturity >= FIRST_FORWARD_YEAR {
+                forwards.push_gap(gap_years, forward(yearly));
             }
         }
         years.push(par_factor(rate, years.annuity))?;

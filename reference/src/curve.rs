@@ -21,7 +21,7 @@ impl Curve {
     pub fn of(sheet: &Sheet) -> Result<Curve, Refusal> {
         let quoted = bootstrap(sheet)?;
         let liquid = &quoted.factors[..FIRST_SMOOTHING_POINT];
-        let extrapolated = extrapolate(sheet, liquid[FIRST_SMOOTHING_POINT - 1], quoted.forwards)?;
+        let extrapolated = extrapolate(sheet, liquid[FIRST_SMOOTHING_POINT - 1], &quoted.forwards)?;
         let curve = Curve::collect(liquid.iter().chain(&extrapolated));
         curve.check_widths(i128::from(sheet.limit))?;
         Ok(curve)

@@ -13,7 +13,7 @@ pub type Answered = (Vec<u8>, u8, u8);
 
 /// The records in order.
 pub fn records() -> Vec<Answered> {
-    [desk_records(), aging_records()].concat()
+    [desk_records(), dropped_records(), aging_records()].concat()
 }
 
 /// The records that meet every ground a desk's record can meet: all but 16. No curve in them
@@ -104,6 +104,46 @@ fn rate_records() -> Vec<Answered> {
     ]
 }
 
+/// What follows `base_records` or `desk_records` and leaves the book as they do: sheets on which
+/// a volume of 0 drops a quote, and what is still tested of it.
+pub fn dropped_records() -> Vec<Answered> {
+    let posted = |sheet: Sheet| post(&sheet_bytes(&sheet));
+    let steep_at = |maturity, volumes| {
+        let sheet = with_rate(flat(3_000), maturity, 12_000);
+        posted(with_volumes(sheet, volumes))
+    };
+    let lowest = |volumes| posted(with_volumes(flat(-2_000), volumes));
+    vec![
+        // From 3% no gap reaches 12%; a quote without volume need not be reached.
+        (steep_at(25, [1, 1, 1, 1, 1]), 9, 25),
+        (steep_at(25, [1, 0, 1, 1, 1]), 0, 0),
+        (look_up(150), 0, 0),
+        (steep_at(30, [1, 0, 1, 0, 0]), 9, 30),
+        (steep_at(40, [1, 0, 0, 1, 1]), 9, 40),
+        (steep_at(50, [1, 1, 1, 0, 1]), 9, 50),
+        (steep_at(50, [0, 0, 0, 0, 1]), 9, 50),
+        (steep_at(50, [1, 1, 1, 1, 0]), 0, 0),
+        (steep_at(50, [1, 0, 0, 0, 0]), 0, 0),
+        // Without volume 20 has no weight, but its quote is used.
+        (steep_at(20, [0, 1, 1, 1, 1]), 9, 20),
+        (steep_at(20, [0, 0, 0, 0, 1]), 9, 20),
+        // 0.98^-35 is above 2, 0.98^-30 is not.
+        (lowest([1, 0, 0, 0, 1]), 8, 35),
+        (lowest([0, 0, 0, 1, 0]), 8, 35),
+        (lowest([1, 0, 1, 0, 0]), 0, 0),
+        (lowest([1, 0, 0, 0, 0]), 0, 0),
+        (look_up(21), 0, 0),
+        (posted(untraded()), 4, 0),
+        (posted(with_rate(ends_at_20(), 25, 12_001)), 3, 15),
+        (posted(with_rate(ends_at_20(), 50, -2_001)), 3, 18),
+        (post(&with_byte(ends_at_20(), 55, 0x03)), 2, 15),
+        (post(&with_byte(ends_at_20(), 68, 51)), 2, 18),
+        (posted(ends_at_20()), 0, 0),
+        (look_up(150), 0, 0),
+        (posted(of_month(1)), 0, 0),
+    ]
+}
+
 /// What follows `desk_records`, which leave month 2 told and the curve of month 1: curves at
 /// the limit and one month past it, and what closes and opens the book.
 fn aging_records() -> Vec<Answered> {
@@ -183,6 +223,28 @@ fn flat(rate: i16) -> Sheet {
         rates: [rate; 17],
         ..zero()
     }
+}
+
+/// The sheet with these volumes, of month 1.
+fn with_volumes(sheet: Sheet, volumes: [u32; 5]) -> Sheet {
+    Sheet {
+        month: 1,
+        volumes,
+        ..sheet
+    }
+}
+
+/// A sheet of month 1 whose quotes past 20 are all dropped.
+fn ends_at_20() -> Sheet {
+    with_volumes(zero(), [1, 0, 0, 0, 0])
+}
+
+/// The sheet's bytes with another one in one place. The quote of maturity 25 has its kind at
+/// 55, that of 50 its maturity at 68.
+fn with_byte(sheet: Sheet, at: usize, byte: u8) -> Vec<u8> {
+    let mut bytes = sheet_bytes(&sheet);
+    bytes[at] = byte;
+    bytes
 }
 
 /// Factors that rise for nine years and fall below 0 in the tenth.

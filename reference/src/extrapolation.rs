@@ -1,7 +1,10 @@
 //! Discount factors of years 21 to 150 from the LLFR and the ultimate forward rate.
 
+use std::ops::RangeInclusive;
+
 use crate::bootstrap::LARGEST_HIGH;
 use crate::enclosure::{div_down, div_up, Enclosure, Round, U};
+use crate::forwards::YearForwards;
 use crate::refusal::Refusal;
 use crate::series::{growth, neg_log};
 use crate::sheet::Sheet;
@@ -17,7 +20,7 @@ pub const UFR_UNIT: i128 = 10_000;
 pub fn extrapolate(
     sheet: &Sheet,
     factor_20: Enclosure,
-    forwards: [Enclosure; 5],
+    forwards: &YearForwards,
 ) -> Result<Vec<Enclosure>, Refusal> {
     let ultimate = log_ultimate(sheet.ufr);
     let last_liquid = last_liquid_forward(&sheet.volumes, forwards);
@@ -38,29 +41,27 @@ pub fn log_ultimate(ufr: u16) -> Enclosure {
     neg_log(U + UFR_UNIT * i128::from(ufr)).negated()
 }
 
-/// Twelve times each maturity's mean forward from year 20 on (from 15 for maturity
-/// 20), as multiples of the forwards of the five gaps.
-pub const TWELVEFOLD_MEANS: [[i128; 5]; 5] = [
-    [12, 0, 0, 0, 0],
-    [0, 12, 0, 0, 0],
-    [0, 6, 6, 0, 0],
-    [0, 3, 3, 6, 0],
-    [0, 2, 2, 4, 4],
-];
+/// The years over whose forwards each volume's mean is taken: from 15 to maturity 20, from 20
+/// to every later one.
+const MEAN_YEARS: [RangeInclusive<usize>; 5] = [16..=20, 21..=25, 21..=30, 21..=40, 21..=50];
 
-/// LLFR, the volume-weighted forward, rounded once.
-pub fn last_liquid_forward(volumes: &[u32; 5], forwards: [Enclosure; 5]) -> Enclosure {
+/// A multiple of 5, 10, 20 and 30 years: with it every mean is a whole multiple of forwards,
+/// and LLFR is rounded once.
+const COMMON_MULTIPLE: i128 = 60;
+
+/// LLFR, the volume-weighted mean forward, rounded once. A maturity without volume has no
+/// weight; beyond 20 its years may have no forward either.
+pub fn last_liquid_forward(volumes: &[u32; 5], forwards: &YearForwards) -> Enclosure {
     let mut sum = Enclosure::ZERO;
-    for (&volume, multiples) in volumes.iter().zip(TWELVEFOLD_MEANS) {
-        for (multiple, forward) in multiples.into_iter().zip(forwards) {
-            sum = sum.plus(forward.times(multiple * i128::from(volume)));
+    let mut volume_sum = 0;
+    for (volume, years) in volumes.map(i128::from).into_iter().zip(MEAN_YEARS) {
+        if volume > 0 {
+            let multiple = COMMON_MULTIPLE / years.clone().count() as i128;
+            sum = sum.plus(forwards.sum(years).times(multiple * volume));
+            volume_sum += volume;
         }
     }
-    let divisor = 12
-        * volumes
-            .iter()
-            .map(|&volume| i128::from(volume))
-            .sum::<i128>();
+    let divisor = COMMON_MULTIPLE * volume_sum;
     Enclosure::new(div_down(sum.low, divisor), div_up(sum.high, divisor))
 }
 

@@ -2,6 +2,7 @@
 //! age limits to ask under.
 
 use crate::book::{Book, LARGEST_AGE_LIMIT};
+use crate::dropped::typed_dropped_sheet;
 use crate::journal::{look_up, post, turn};
 use crate::streams::{sheet, sheet_bytes, steep_sheet, typed_sheet, Random};
 
@@ -51,9 +52,13 @@ fn later(random: &mut Random, told: u16) -> u16 {
     }
 }
 
-/// The record of a post.
+/// The record of a post; one in 3 is of a sheet with dropped quotes.
 pub fn posted(random: &mut Random, month: u16) -> Vec<u8> {
-    post(&typed_sheet(random, month))
+    if random.one_in(3) {
+        post(&typed_dropped_sheet(random, month))
+    } else {
+        post(&typed_sheet(random, month))
+    }
 }
 
 /// Puts any byte in some place, or cuts the bytes; most often neither.

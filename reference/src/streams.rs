@@ -4,14 +4,16 @@
 use crate::bootstrap::par_factor;
 use crate::convergence::{TEN_PERCENT, X_OUTSIDE_PHASE_IN};
 use crate::curve::{Curve, YEARS};
+use crate::dropped::typed_dropped_sheet;
 use crate::enclosure::{Enclosure, RATE_UNIT, U};
 use crate::journal::{look_up, post, turn};
 use crate::sheet::{Sheet, MATURITIES, VOLUME_MATURITIES};
 
-const LARGEST_LIMIT: u32 = 100_000;
+pub(crate) const LARGEST_LIMIT: u32 = 100_000;
 
-/// The highest rate that a sheet may quote.
-const HIGHEST_QUOTE: i64 = 12_000;
+/// The lowest and the highest rate that a sheet may quote.
+pub(crate) const LOWEST_QUOTE: i64 = -2_000;
+pub(crate) const HIGHEST_QUOTE: i64 = 12_000;
 
 /// Bytes of a sheet without the phase-in's record.
 const REQUIRED_LENGTH: usize = 109;
@@ -47,6 +49,11 @@ impl Random {
     pub fn one_in(&mut self, count: u64) -> bool {
         self.below(count) == 0
     }
+
+    /// One of `choices`.
+    pub fn one_of<T: Copy>(&mut self, choices: &[T]) -> T {
+        choices[self.below(choices.len() as u64) as usize]
+    }
 }
 
 /// A sheet's bytes.
@@ -73,7 +80,7 @@ pub fn sheet_bytes(sheet: &Sheet) -> Vec<u8> {
 }
 
 /// Rates of one shape: a level, a slope over the maturities, and noise.
-fn rates(random: &mut Random) -> [i16; 17] {
+pub(crate) fn rates(random: &mut Random) -> [i16; 17] {
     let level = random.between(-600, 5_000);
     let slope = match random.below(5) {
         0 => 0,
@@ -112,6 +119,11 @@ fn volumes(random: &mut Random) -> [u32; 5] {
     } else {
         31
     };
+    volumes_of(random, pattern)
+}
+
+/// Volumes above 0 where `pattern` has a bit, that of maturity 20 being the lowest.
+pub(crate) fn volumes_of(random: &mut Random, pattern: u64) -> [u32; 5] {
     let mut volumes = [0; 5];
     for (i, volume) in volumes.iter_mut().enumerate() {
         if pattern >> i & 1 == 1 {
@@ -131,29 +143,40 @@ pub fn sheet(random: &mut Random, month: u16) -> Sheet {
         month,
         rates: rates(random),
         volumes: volumes(random),
-        ufr: match random.below(6) {
-            0 => 0,
-            1 => 10_000,
-            _ => random.between(0, 6_000) as u16,
-        },
+        ufr: ufr(random),
         limit: LARGEST_LIMIT,
         phase_in: None,
     };
     if random.one_in(2) {
         phase_in(random, &mut sheet);
     }
-    match random.below(8) {
-        0 => sheet.limit = random.between(1, 3_000) as u32,
-        1 => sheet.limit = widest(&sheet),
-        2 => sheet.limit = widest(&sheet).max(2) - 1,
-        _ => {}
-    }
+    sheet.limit = limit(random, &sheet);
     sheet
+}
+
+/// An ultimate forward rate: ordinary, or at an end of its range.
+pub(crate) fn ufr(random: &mut Random) -> u16 {
+    match random.below(6) {
+        0 => 0,
+        1 => 10_000,
+        _ => random.between(0, 6_000) as u16,
+    }
+}
+
+/// A limit for the sheet, which has the largest: narrow, at its widest band or just below, or
+/// most often the largest.
+pub(crate) fn limit(random: &mut Random, sheet: &Sheet) -> u32 {
+    match random.below(8) {
+        0 => random.between(1, 3_000) as u32,
+        1 => widest(sheet),
+        2 => widest(sheet).max(2) - 1,
+        _ => LARGEST_LIMIT,
+    }
 }
 
 /// Gives the sheet an X and, most often, a 20-year rate on which its convergence factor
 /// depends or that lies at an end of these rates; the other rates move with it.
-fn phase_in(random: &mut Random, sheet: &mut Sheet) {
+pub(crate) fn phase_in(random: &mut Random, sheet: &mut Sheet) {
     sheet.phase_in = Some(match random.below(8) {
         0 => X_OUTSIDE_PHASE_IN,
         1 => X_OUTSIDE_PHASE_IN + 1,
@@ -212,7 +235,7 @@ pub fn steep_sheet(random: &mut Random, month: u16) -> Sheet {
 
 /// Low rates, then the highest that leaves a factor of 1 or more, or a little less than that,
 /// for all later maturities: only with such a tail can every gap be filled.
-fn steep_rates(random: &mut Random) -> [i16; 17] {
+pub(crate) fn steep_rates(random: &mut Random) -> [i16; 17] {
     // Eight years add up to enough only below 0.
     let (low_years, level) = if random.one_in(3) {
         (8, random.between(-1_900, -1_050))
@@ -352,6 +375,16 @@ fn steep_records(random: &mut Random, told: u16) -> Vec<u8> {
     records
 }
 
+/// The post of a sheet with dropped quotes and look-ups of it: in the years that its gaps
+/// reach, anywhere after 20, and anywhere.
+fn dropped_records(random: &mut Random, told: u16) -> Vec<u8> {
+    let mut records = post(&typed_dropped_sheet(random, told));
+    for (first, last) in [(18, 52), (21, 150), (1, 150)] {
+        records.extend(look_up(random.between(first, last) as u8));
+    }
+    records
+}
+
 /// A stream of `count` whole records.
 pub fn records(random: &mut Random, count: usize) -> Vec<u8> {
     let mut told = 0;
@@ -362,9 +395,10 @@ pub fn records(random: &mut Random, count: usize) -> Vec<u8> {
     stream
 }
 
-/// A stream of `count` records, and a few of a steep sheet after one in 60 of them, so that the
-/// other grounds are met as often as without; sometimes cut, with any byte in one place (a
-/// wrong length shifts all that follows), or ended by any kind.
+/// A stream of `count` records, and a few of a steep sheet after one in 60 of them and of a
+/// sheet with dropped quotes after one in 8, so that the other grounds are met as often as
+/// without; sometimes cut, with any byte in one place (a wrong length shifts all that follows),
+/// or ended by any kind.
 pub fn stream(seed: u64, count: usize) -> Vec<u8> {
     let mut random = Random::new(seed);
     let mut told = 0;
@@ -373,6 +407,9 @@ pub fn stream(seed: u64, count: usize) -> Vec<u8> {
         stream.extend(record(&mut random, &mut told));
         if random.one_in(60) {
             stream.extend(steep_records(&mut random, told));
+        }
+        if random.one_in(8) {
+            stream.extend(dropped_records(&mut random, told));
         }
     }
     let at = random.below(stream.len() as u64 + 1) as usize;
@@ -385,26 +422,51 @@ pub fn stream(seed: u64, count: usize) -> Vec<u8> {
     stream
 }
 
-/// `count` accepted posts of one month, for measuring. The posts are of the same sheets in
-/// either case; with the phase-in each has its X, and a factor that is not that of the table.
-pub fn accepted_posts(seed: u64, count: usize, with_phase_in: bool) -> Vec<u8> {
+/// What a measured post has beside the quotes that are always used.
+#[derive(Clone, Copy, Debug, PartialEq, Eq)]
+pub enum Measured {
+    /// All quotes are used and the weights are those of the table.
+    Plain,
+    /// An X, and a convergence factor that is not that of the table.
+    PhaseIn,
+    /// No volume at 30 and 40, so that the gap 25-50 is filled in place of three.
+    TwoDropped,
+}
+
+impl Measured {
+    const ALL: [Measured; 3] = [Measured::Plain, Measured::PhaseIn, Measured::TwoDropped];
+
+    /// The sheet, which has an X and all volumes, in this form.
+    fn form(self, sheet: &Sheet) -> Sheet {
+        let [v20, v25, _, _, v50] = sheet.volumes;
+        Sheet {
+            volumes: match self {
+                Measured::TwoDropped => [v20, v25, 0, 0, v50],
+                _ => sheet.volumes,
+            },
+            phase_in: sheet.phase_in.filter(|_| self == Measured::PhaseIn),
+            ..sheet.clone()
+        }
+    }
+}
+
+/// `count` accepted posts of one month, for measuring, and a look-up, which shows that the last
+/// was worked. They are of the same sheets in every case, each of them accepted in all forms.
+pub fn accepted_posts(seed: u64, count: usize, measured: Measured) -> Vec<u8> {
     let mut random = Random::new(seed);
     let mut stream = turn(1);
     let mut done = 0;
     while done < count {
-        let mut with = sheet(&mut random, 1);
-        with.limit = LARGEST_LIMIT;
-        let without = Sheet {
-            phase_in: None,
-            ..with.clone()
-        };
-        let all_accepted = worked(&with).is_some() && worked(&without).is_some();
-        if with.convergence() != TEN_PERCENT && all_accepted {
-            let posted = if with_phase_in { &with } else { &without };
-            stream.extend(post(&sheet_bytes(posted)));
+        let mut sheet = sheet(&mut random, 1);
+        sheet.limit = LARGEST_LIMIT;
+        let suits = sheet.convergence() != TEN_PERCENT && sheet.volumes.iter().all(|&v| v > 0);
+        let accepted = |form: &Measured| worked(&form.form(&sheet)).is_some();
+        if suits && Measured::ALL.iter().all(accepted) {
+            stream.extend(post(&sheet_bytes(&measured.form(&sheet))));
             done += 1;
         }
     }
+    stream.extend(look_up(YEARS as u8));
     stream
 }
 

@@ -1,23 +1,23 @@
 //! The true curve of order n, whether a curve's enclosures hold it, and whether its own rate
 //! lies between the curve's rates.
 //!
-//! Years 1 to 50 from the quotes are exact fractions: the earlier years' sum and the
-//! newest factor share one denominator, below 1,700 bits up to order 3, so the search
-//! for a gap's yearly factor compares whole numbers and no tie can be undecided.
+//! Years from the quotes are exact fractions: the earlier years' sum and the newest
+//! factor share one denominator, below 1,700 bits up to order 3 whichever maturities
+//! are traded, so the search for a gap's yearly factor compares whole numbers and no
+//! tie can be undecided.
 //! From the logarithm on, exact fractions would grow to millions of digits; there
 //! every value is an interval of fixed-point numbers with 1,024 bits (308 decimal
 //! digits) and outward rounding, and the precision is doubled when a comparison with
 //! a low or a high is undecided. Growth at a rate is an exact fraction in every year.
 
 use crate::bigint::BigInt;
-use crate::bootstrap::FIRST_KEPT_GAP;
 use crate::convergence::RATE_BOUND;
 use crate::curve::{Curve, YEARS};
 use crate::enclosure::{Enclosure, RATE_UNIT, U};
-use crate::extrapolation::{FIRST_SMOOTHING_POINT, TWELVEFOLD_MEANS, UFR_UNIT};
+use crate::extrapolation::{FIRST_SMOOTHING_POINT, UFR_UNIT};
 use crate::interval::Interval;
 use crate::rates::ZeroRates;
-use crate::sheet::{Sheet, MATURITIES};
+use crate::sheet::{Sheet, MATURITIES, VOLUME_MATURITIES};
 use crate::weights::HORIZON;
 
 /// Terms of the logarithm's sum at order 0.
@@ -109,39 +109,52 @@ pub fn check(sheet: &Sheet, curve: &Curve, order: usize) -> Result<Vec<YearCheck
 
 /// The part of the true curve that comes from the quotes.
 struct TrueQuotes {
-    /// True factors of years 1 to 50, in billionths.
+    /// True factors of year 1 to the longest maturity that counts, in billionths.
     factors: Vec<Fraction>,
-    /// Yearly factors of the five last gaps as parts of one.
-    yearly_factors: Vec<Fraction>,
+    /// Every stretch of years with one forward.
+    gaps: Vec<TrueGap>,
+}
+
+/// The years after `start` up to `end`, through which the forward is the same.
+struct TrueGap {
+    start: usize,
+    end: usize,
+    /// As a part of one.
+    yearly_factor: Fraction,
 }
 
 impl TrueQuotes {
     fn of(sheet: &Sheet, order: usize) -> Result<TrueQuotes, NoYearlyFactor> {
         let mut years = ExactYears::new(order);
-        let mut yearly_factors = Vec::new();
-        for (i, &maturity) in MATURITIES.iter().enumerate() {
-            let rate = BigInt::from(i128::from(sheet.rates[i]));
-            let gap_years = usize::from(maturity) - years.factors.len();
-            if gap_years > 1 {
-                let multiple = years
-                    .largest_multiple(gap_years, &rate)
+        let mut gaps = Vec::new();
+        for (&maturity, &rate) in MATURITIES.iter().zip(&sheet.rates) {
+            if nobody_trades(sheet, maturity) {
+                continue;
+            }
+            let rate = BigInt::from(i128::from(rate));
+            let (start, end) = (years.factors.len(), usize::from(maturity));
+            if end - start > 1 {
+                let yearly_factor = years
+                    .fill_gap(end - start, &rate)
                     .ok_or(NoYearlyFactor { maturity })?;
-                years.fill_gap(gap_years, &multiple);
-                if i >= FIRST_KEPT_GAP {
-                    let denominator = years.grid.clone();
-                    yearly_factors.push(Fraction {
-                        numerator: multiple,
-                        denominator,
-                    });
-                }
+                gaps.push(TrueGap {
+                    start,
+                    end,
+                    yearly_factor,
+                });
             }
             years.push_par_factor(&rate);
         }
-        Ok(TrueQuotes {
-            factors: years.factors,
-            yearly_factors,
-        })
+        let factors = years.factors;
+        Ok(TrueQuotes { factors, gaps })
     }
+}
+
+/// Whether supervisors dropped the maturity: one beyond 20 whose volume is 0. The curve then
+/// runs on as if it were not quoted.
+fn nobody_trades(sheet: &Sheet, maturity: u8) -> bool {
+    let mut volumes = VOLUME_MATURITIES.into_iter().zip(sheet.volumes);
+    maturity > 20 && volumes.any(|(of, volume)| of == maturity && volume == 0)
 }
 
 /// The true years worked so far. Last factor and sum are over the same `denominator`.
@@ -191,14 +204,20 @@ impl ExactYears {
         self.push(numerator);
     }
 
-    /// Appends the years inside a gap whose yearly factor is `multiple / grid`.
-    fn fill_gap(&mut self, gap_years: usize, multiple: &BigInt) {
+    /// Appends the years inside a gap that ends with a quote of `rate`, and hands back the
+    /// gap's yearly factor; none if there is no such factor.
+    fn fill_gap(&mut self, gap_years: usize, rate: &BigInt) -> Option<Fraction> {
+        let multiple = self.largest_multiple(gap_years, rate)?;
+        let grid = self.grid.clone();
         for _ in 1..gap_years {
-            let next = &self.last * multiple;
-            let grid = self.grid.clone();
+            let next = &self.last * &multiple;
             self.extend_denominator(&grid);
             self.push(next);
         }
+        Some(Fraction {
+            numerator: multiple,
+            denominator: grid,
+        })
     }
 
     /// The largest whole number from 0 up whose multiple of one over the grid puts
@@ -376,34 +395,38 @@ fn true_neg_log(x: &BigInt, one: &BigInt, order: usize, bits: usize) -> Interval
     sum.times(2)
 }
 
-/// LLFR as a part of one.
+/// LLFR as a part of one: f15,20 and the forwards from 20 to each traded maturity after it,
+/// weighed by volume.
 fn true_last_liquid_forward(
     sheet: &Sheet,
     quotes: &TrueQuotes,
     order: usize,
     bits: usize,
 ) -> Interval {
-    let forwards = quotes
-        .yearly_factors
-        .iter()
-        .map(|yearly| true_neg_log(&yearly.numerator, &yearly.denominator, order, bits));
+    let traded = VOLUME_MATURITIES.into_iter().zip(sheet.volumes);
+    let traded: Vec<_> = traded.filter(|&(_, volume)| volume > 0).collect();
     let mut sum = Interval::integer(0, bits);
-    for (gap, forward) in forwards.enumerate() {
-        let multiple: i128 = sheet
-            .volumes
-            .iter()
-            .zip(TWELVEFOLD_MEANS)
-            .map(|(&volume, means)| i128::from(volume) * means[gap])
-            .sum();
-        sum = sum.add(&forward.times(multiple));
+    for &(maturity, volume) in &traded {
+        let start = if maturity == 20 { 15 } else { 20 };
+        let forward = quotes.forward(start, usize::from(maturity), order, bits);
+        sum = sum.add(&forward.times(i128::from(volume)));
     }
-    sum.div_whole(
-        12 * sheet
-            .volumes
-            .iter()
-            .map(|&volume| i128::from(volume))
-            .sum::<i128>(),
-    )
+    sum.div_whole(traded.iter().map(|&(_, volume)| i128::from(volume)).sum())
+}
+
+impl TrueQuotes {
+    /// The forward from `start` to `end`, both ends of gaps, as a part of one: that of every
+    /// gap between them, as often as the gap has years, over all years.
+    fn forward(&self, start: usize, end: usize, order: usize, bits: usize) -> Interval {
+        let between = |gap: &&TrueGap| start <= gap.start && gap.end <= end;
+        let mut sum = Interval::integer(0, bits);
+        for gap in self.gaps.iter().filter(between) {
+            let (x, one) = (&gap.yearly_factor.numerator, &gap.yearly_factor.denominator);
+            let forward = true_neg_log(x, one, order, bits);
+            sum = sum.add(&forward.times((gap.end - gap.start) as i128));
+        }
+        sum.div_whole((end - start) as i128)
+    }
 }
 
 /// The convergence factor as a part of one, in the words of the phase-in paper: ten percent

@@ -265,7 +265,7 @@ fn of_age(age: Option<u64>, limit: u64) -> u8 {
 fn the_limit_changes_only_what_is_shown() {
     let mut random = Random::new(16);
     let mut met = [0; 18];
-    for _ in 0..150 {
+    for _ in 0..200 {
         let journal = journal(&mut random);
         let free = book_after(u64::MAX, &journal);
         let age = curve_age(&free);

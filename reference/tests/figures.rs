@@ -8,6 +8,7 @@ use reference::curve::Curve;
 use reference::desk::run_desk;
 use reference::enclosure::{Enclosure, U};
 use reference::extrapolation::{last_liquid_forward, log_ultimate};
+use reference::forwards::YearForwards;
 use reference::refusal::Refusal;
 use reference::series::{growth, neg_log};
 use reference::sheet::Sheet;
@@ -124,7 +125,11 @@ fn ground_8_on_extrapolated_years_comes_after_the_quotes_and_before_ground_10() 
         8,
         27,
     );
-    refused(&rising_extrapolation().with_rate(50, 12_000), 9, 50);
+    // A last gap that cannot be filled, once its quote has volume and is used.
+    let mut sheet = rising_extrapolation().with_rate(50, 12_000);
+    refused(&sheet, 8, 27);
+    sheet.volumes = [1_000_000, 0, 0, 0, 1];
+    refused(&sheet, 9, 50);
 }
 
 #[test]
@@ -171,13 +176,22 @@ fn table_of_weights_is_the_whole_part_at_every_order() {
     }
 }
 
+/// Years 16 to 50 with these forwards in gaps 15-20, 20-25, 25-30, 30-40 and 40-50.
+fn in_all_gaps(forwards: [i128; 5]) -> YearForwards {
+    let mut years = YearForwards::default();
+    for (gap_years, g) in [5, 5, 5, 10, 10].into_iter().zip(forwards) {
+        years.push_gap(gap_years, Enclosure::new(g, g));
+    }
+    years
+}
+
 #[test]
 fn mean_forwards_run_from_year_20() {
-    let forwards = [10, 200, 3_000, 40_000, 500_000].map(|g| Enclosure::new(g, g));
+    let forwards = in_all_gaps([10, 200, 3_000, 40_000, 500_000]);
     let mean = |maturity: usize| {
         let mut volumes = [0; 5];
         volumes[maturity] = 7;
-        let mean = last_liquid_forward(&volumes, forwards);
+        let mean = last_liquid_forward(&volumes, &forwards);
         (mean.low, mean.high)
     };
     assert_eq!(mean(0), (10, 10));
@@ -191,10 +205,9 @@ fn mean_forwards_run_from_year_20() {
 
 #[test]
 fn forwards_below_zero_round_down_and_up() {
-    let mut forwards = [Enclosure::ZERO; 5];
-    forwards[0] = Enclosure::new(-1, -1);
+    let forwards = in_all_gaps([-1, 0, 0, 0, 0]);
     assert_eq!(
-        last_liquid_forward(&[1, 1, 0, 0, 0], forwards),
+        last_liquid_forward(&[1, 1, 0, 0, 0], &forwards),
         Enclosure::new(-1, 0)
     );
 }

@@ -1,8 +1,8 @@
 //! Times desk programs on a stream of posts, in turn, in one run on one machine, once it has
 //! seen that they print the same; then on the same posts with an X, whose weights are worked
-//! anew in each; then on look-ups after one post, those of each of three years apart, since
-//! the rates of a late year take more steps. The first desk's time is the denominator of the
-//! ratios.
+//! anew in each, and with two dropped quotes; then on look-ups after one post, those of each of
+//! three years apart, since the rates of a late year take more steps. The first desk's time is
+//! the denominator of the ratios.
 //!
 //!     bench POSTS NAME=DESK NAME=DESK..
 
@@ -11,7 +11,7 @@ use std::path::PathBuf;
 use std::process::{Command, ExitCode, Stdio};
 use std::time::{Duration, Instant};
 
-use reference::streams::{accepted_posts, look_ups};
+use reference::streams::{accepted_posts, look_ups, Measured};
 
 /// Each desk is run this often; the fastest run counts, as the least disturbed one.
 const RUNS: usize = 5;
@@ -62,10 +62,10 @@ struct Load {
     line: &'static [u8],
 }
 
-fn posts_of(name: &'static str, posts: usize, with_phase_in: bool) -> Load {
+fn posts_of(name: &'static str, posts: usize, measured: Measured) -> Load {
     Load {
         name,
-        stream: accepted_posts(SEED, posts, with_phase_in),
+        stream: accepted_posts(SEED, posts, measured),
         calls: posts,
         unit: "posts",
         line: b"P ",
@@ -83,11 +83,16 @@ fn look_ups_of(year: u8, calls: usize) -> Load {
 }
 
 fn bench(posts: usize, desks: &[Desk]) -> Result<(), String> {
-    let without = run(&posts_of("without X", posts, false), desks)?;
-    let with = run(&posts_of("with X", posts, true), desks)?;
-    for ((desk, with), without) in desks.iter().zip(with).zip(&without) {
-        let cost = with.as_secs_f64() / without.as_secs_f64();
-        println!("{}: with X {cost:.2} times as long as without", desk.name);
+    let without = run(&posts_of("without X", posts, Measured::Plain), desks)?;
+    for (name, measured) in [
+        ("with X", Measured::PhaseIn),
+        ("with two dropped quotes", Measured::TwoDropped),
+    ] {
+        let with = run(&posts_of(name, posts, measured), desks)?;
+        for ((desk, with), without) in desks.iter().zip(with).zip(&without) {
+            let cost = with.as_secs_f64() / without.as_secs_f64();
+            println!("{}: {name} {cost:.2} times as long as without", desk.name);
+        }
     }
     let post_times: Vec<f64> = without.iter().map(|&time| micros(time, posts)).collect();
     for year in YEARS {

@@ -1,7 +1,8 @@
 //! Runs another desk program on seeded record streams and compares its lines, byte
-//! for byte, with this implementation's; fails where no look-up was turned down on 17.
-//! Then checks on sampled sheets that the curve's bands hold the true factors of orders 0
-//! to 3 and that the true curves' own rates lie between the rates.
+//! for byte, with this implementation's; fails where no look-up was turned down on 17, or
+//! where no sheet was accepted with some gap that runs on over a dropped maturity. Then checks
+//! on sampled sheets that the curve's bands hold the true factors of orders 0 to 3 and that
+//! the true curves' own rates lie between the rates.
 //!
 //!     differential DESK [SEED [POSTS [SAMPLES]]]
 
@@ -9,18 +10,21 @@ use std::io::Write;
 use std::process::{Command, ExitCode, Stdio};
 
 use reference::curve::{Curve, YEARS};
-use reference::desk::run_desk;
+use reference::desk::{run_desk, Call};
+use reference::dropped::{dropped_sheet, DroppedPosts};
+use reference::journal::calls;
 use reference::rates::ZeroRates;
 use reference::sheet::Sheet;
-use reference::streams::{sheet, steep_sheet, stream, worked, Random};
+use reference::streams::{sheet, sheet_bytes, steep_sheet, stream, worked, Random};
 use reference::true_curve::check;
 
 /// Records in a stream; about four in ten are posts.
 const RECORDS: usize = 1_000;
 const ORDERS: usize = 4;
 
-/// Every such sample is a steep sheet, in which some years have no high rate.
-const STEEP: u64 = 5;
+/// Of so many samples one is a steep sheet, in which some years have no high rate, and two
+/// have dropped quotes.
+const ROUND: u64 = 5;
 
 /// What was compared.
 #[derive(Default)]
@@ -28,6 +32,7 @@ struct Compared {
     posts: u64,
     /// Look-ups of years that have no high rate.
     without_rates: u64,
+    dropped: DroppedPosts,
 }
 
 /// What was checked against the true curves of all orders.
@@ -36,6 +41,7 @@ struct Checked {
     curves: u64,
     years_with_rates: u64,
     years_without: u64,
+    dropped: DroppedPosts,
 }
 
 fn main() -> ExitCode {
@@ -54,13 +60,17 @@ fn main() -> ExitCode {
     match compare_desks(&desk, seed, posts).and_then(|done| {
         let (posts, without_rates) = (done.posts, done.without_rates);
         eprintln!("{posts} posts and {without_rates} refusals on 17 compared, no difference");
+        println!("{}", done.dropped);
         check_truth(seed, samples)
     }) {
         Ok(checked) => {
             println!(
-                "desks agree; {} curves hold their true factors of orders 0 to 3, and {} of \
-                 their years the true rates, {} have none",
-                checked.curves, checked.years_with_rates, checked.years_without
+                "desks agree; {} curves, {} with dropped quotes, hold their true factors of \
+                 orders 0 to 3, and {} of their years the true rates, {} have none",
+                checked.curves,
+                checked.dropped.all.accepted,
+                checked.years_with_rates,
+                checked.years_without
             );
             ExitCode::SUCCESS
         }
@@ -83,7 +93,7 @@ fn compare_desks(desk: &str, seed: u64, posts: u64) -> Result<Compared, String> 
         if found != expected {
             return Err(difference(stream_seed, &found, &expected));
         }
-        done.count(&String::from_utf8_lossy(&expected));
+        done.count(&input, &String::from_utf8_lossy(&expected));
         number += 1;
         if number % 20 == 0 {
             eprintln!("{} posts", done.posts);
@@ -92,28 +102,24 @@ fn compare_desks(desk: &str, seed: u64, posts: u64) -> Result<Compared, String> 
     if posts > 0 && done.without_rates == 0 {
         return Err("no look-up was turned down on 17".to_string());
     }
+    if posts > 0 {
+        done.dropped.check()?;
+    }
     Ok(done)
 }
 
 impl Compared {
-    /// Lines that answer posts are at least four in ten of all; counting the records
-    /// that were answered keeps the figure honest where a stream was cut.
-    fn count(&mut self, lines: &str) {
-        for line in lines.lines() {
-            match refusal_number(line) {
-                Some(1..=10) => self.posts += 1,
-                Some(17) => self.without_rates += 1,
-                _ if line.starts_with('P') => self.posts += 1,
-                _ => {}
+    /// Counts the records that were answered, so that the figure is honest where a stream was
+    /// cut.
+    fn count(&mut self, input: &[u8], lines: &str) {
+        for (call, line) in calls(input).zip(lines.lines()) {
+            if let Call::Post(sheet) = call {
+                self.posts += 1;
+                self.dropped.count(&sheet, line.starts_with('P'));
             }
+            self.without_rates += u64::from(line == "R 17 0");
         }
     }
-}
-
-/// The number of a line that turns a record down.
-fn refusal_number(line: &str) -> Option<u32> {
-    let rest = line.strip_prefix("R ")?;
-    rest.split(' ').next()?.parse().ok()
 }
 
 fn run_program(desk: &str, input: &[u8]) -> Result<Vec<u8>, String> {
@@ -154,10 +160,10 @@ fn check_truth(seed: u64, samples: u64) -> Result<Checked, String> {
     let mut random = Random::new(seed);
     let mut checked = Checked::default();
     while checked.curves < samples {
-        let sheet = if checked.curves.is_multiple_of(STEEP) {
-            steep_sheet(&mut random, 0)
-        } else {
-            sheet(&mut random, 0)
+        let sheet = match checked.curves % ROUND {
+            0 => steep_sheet(&mut random, 0),
+            1 | 2 => dropped_sheet(&mut random, 0),
+            _ => sheet(&mut random, 0),
         };
         if let Some(curve) = worked(&sheet) {
             check_curve(&sheet, &curve, &mut checked)?;
@@ -177,6 +183,7 @@ fn check_curve(sheet: &Sheet, curve: &Curve, checked: &mut Checked) -> Result<()
     let with_rates = (1..=YEARS).filter(with_rates).count();
     checked.years_with_rates += with_rates as u64;
     checked.years_without += (YEARS - with_rates) as u64;
+    checked.dropped.count(&sheet_bytes(sheet), true);
     checked.curves += 1;
     if checked.curves.is_multiple_of(50) {
         let curves = checked.curves;

@@ -2,16 +2,19 @@
 //!
 //!     vectors
 //!     vectors zero_rates
+//!     vectors dropped
 //!
 //! The first, stored as phase_in, reaches grounds 1 to 14, with many places, and accepted
 //! curves at many convergence factors, each looked up at its ends, around the smoothing year
 //! and elsewhere. The second reaches ground 17 as well, and looks up all 150 years of curves,
-//! of which some have rates in every year and the others have not.
+//! of which some have rates in every year and the others have not. The third has accepted
+//! curves of every pattern of volumes of 0, and sheets with dropped quotes that are refused.
 
 use std::io::Write;
 use std::process::ExitCode;
 
 use reference::curve::YEARS as LAST_YEAR;
+use reference::dropped::{dropped_sheet, typed_dropped_sheet};
 use reference::every_ground;
 use reference::journal::{look_up, post, turn};
 use reference::rates::ZeroRates;
@@ -38,13 +41,26 @@ const WRONG_LENGTHS: [usize; 14] = [
 /// Curves of steep sheets in the stream of zero rates.
 const STEEP_CURVES: usize = 5;
 
+/// Rates that rise to maturity 40, in the stream of dropped quotes.
+const RISING: [i16; 17] = [
+    500, 700, 900, 1_100, 1_300, 1_500, 1_700, 1_850, 2_000, 2_100, 2_250, 2_400, 2_500, 2_550,
+    2_580, 2_590, 2_580,
+];
+
+/// Years at which each of its curves is looked up.
+const YEARS_OF_DROPPED: [u8; 6] = [1, 20, 21, 30, 50, 150];
+
+/// Its posts of which any may be refused.
+const ANY_DROPPED: usize = 150;
+
 fn main() -> std::io::Result<ExitCode> {
     let words: Vec<_> = std::env::args().skip(1).collect();
     let stream = match words.iter().map(String::as_str).collect::<Vec<_>>()[..] {
         [] => phase_in(),
         ["zero_rates"] => zero_rates(),
+        ["dropped"] => dropped(),
         _ => {
-            eprintln!("usage: vectors [zero_rates]");
+            eprintln!("usage: vectors [zero_rates | dropped]");
             return Ok(ExitCode::from(2));
         }
     };
@@ -73,6 +89,9 @@ fn phase_in() -> Vec<u8> {
             stream.extend(look_up(1 + random.below(150) as u8));
         }
     }
+    // The curve that stays has rates below 0.
+    stream.extend(post(&sheet_bytes(&low_rates(LAST_MONTH, Some(20_000)))));
+    stream.extend(YEARS.into_iter().flat_map(look_up));
     stream.extend([look_up(0), look_up(151)].concat());
     stream.extend([turn(LAST_MONTH + 1), turn(LAST_MONTH - 1)].concat());
     // An unknown kind ends it.
@@ -91,6 +110,59 @@ fn zero_rates() -> Vec<u8> {
     // Cut after the kind.
     stream.push(0x4C);
     stream
+}
+
+fn dropped() -> Vec<u8> {
+    let mut random = Random::new(SEED);
+    let mut stream = bytes(every_ground::base_records());
+    stream.extend(bytes(every_ground::dropped_records()));
+    stream.extend(turn(LAST_MONTH));
+    for pattern in 0..32 {
+        let sheets = [rising_of(pattern), accepted_of(&mut random, pattern)];
+        for sheet in sheets {
+            stream.extend(post(&sheet_bytes(&sheet)));
+            stream.extend(YEARS_OF_DROPPED.into_iter().flat_map(look_up));
+        }
+    }
+    for _ in 0..ANY_DROPPED {
+        stream.extend(post(&typed_dropped_sheet(&mut random, LAST_MONTH)));
+        stream.extend(look_up(random.between(21, 150) as u8));
+    }
+    // Cut inside the month.
+    stream.extend([0x4D, 0x09]);
+    stream
+}
+
+/// A volume of 100 more for each maturity where the pattern has a bit, 20's the lowest. Quotes
+/// that are dropped could not be used.
+fn rising_of(pattern: usize) -> Sheet {
+    let mut sheet = Sheet {
+        rates: RISING,
+        volumes: std::array::from_fn(|i| (pattern >> i & 1) as u32 * 100 * (i as u32 + 1)),
+        ..flat(0, 345)
+    };
+    for i in (1..5).filter(|&i| sheet.volumes[i] == 0) {
+        sheet.rates[12 + i] = [12_000, -2_000][i % 2];
+    }
+    sheet
+}
+
+/// A seeded sheet of the pattern; accepted, unless all volumes are 0.
+fn accepted_of(random: &mut Random, pattern: usize) -> Sheet {
+    loop {
+        let mut sheet = match pattern {
+            0 | 31 => sheet(random, LAST_MONTH),
+            _ => dropped_sheet(random, LAST_MONTH),
+        };
+        if pattern == 0 {
+            sheet.volumes = [0; 5];
+            return sheet;
+        }
+        let bit = |i: usize| usize::from(sheet.volumes[i] > 0) << i;
+        if (0..5).map(bit).sum::<usize>() == pattern && worked(&sheet).is_some() {
+            return sheet;
+        }
+    }
 }
 
 /// The sheet's post, and look-ups of all its years.

@@ -1,0 +1,26 @@
+//! The forwards of single years, over which LLFR takes its means.
+
+use std::ops::RangeInclusive;
+
+use crate::enclosure::Enclosure;
+
+/// The first year whose forward is kept: the first after 15, where the gap to 20 starts.
+pub const FIRST_FORWARD_YEAR: usize = 16;
+
+/// The forwards of years 16, 17 and so on, as far as the quotes reach.
+#[derive(Clone, Debug, Default, PartialEq, Eq)]
+pub struct YearForwards(Vec<Enclosure>);
+
+impl YearForwards {
+    /// Appends a gap, in each of whose years the forward is the same.
+    pub fn push_gap(&mut self, years: usize, forward: Enclosure) {
+        self.0.extend(std::iter::repeat_n(forward, years));
+    }
+
+    /// The sum over `years`, all of which have a forward.
+    pub fn sum(&self, years: RangeInclusive<usize>) -> Enclosure {
+        years.fold(Enclosure::ZERO, |sum, year| {
+            sum.plus(self.0[year - FIRST_FORWARD_YEAR])
+        })
+    }
+}
