@@ -41,7 +41,8 @@ fn steep(month: u16) -> Sheet {
     }
 }
 
-/// Sheets that are accepted: the zero sheet, usual ones without and with X, steep ones and any.
+/// Sheets that are accepted: the zero sheet, usual ones without and with X, one with dropped
+/// quotes, steep ones and any.
 fn sheets() -> Vec<Sheet> {
     let zero = Sheet {
         rates: [0; 17],
@@ -54,6 +55,10 @@ fn sheets() -> Vec<Sheet> {
         zero,
         low_rates(0x0102, None),
         low_rates(2_396, Some(20_000)),
+        Sheet {
+            volumes: [14, 0, 40, 0, 8],
+            ..low_rates(3, Some(12_000))
+        },
         steep(5),
         steep_sheet(&mut random, 7),
         sheet(&mut random, 250),

@@ -1,13 +1,14 @@
 //! Times posts and a page through the C interface against the second implementation, on
 //! the same journal, in turn, in one run on one machine: bench [POSTS]. Then the same posts
-//! with an X, whose weights are worked anew in each. Then pages of one post's curve.
+//! with an X, whose weights are worked anew in each, and with two dropped quotes. Then pages of
+//! one post's curve.
 
 use std::time::{Duration, Instant};
 
 use interface::page_after;
 use reference::book::{LARGEST_AGE_LIMIT, PAGE_LENGTH};
 use reference::journal::book_after;
-use reference::streams::accepted_posts;
+use reference::streams::{accepted_posts, Measured};
 
 /// The fastest of these runs counts, as the least disturbed one.
 const RUNS: usize = 7;
@@ -21,10 +22,14 @@ fn main() {
         .nth(1)
         .and_then(|word| word.parse().ok())
         .unwrap_or(20_000);
-    for (sheets, with_phase_in) in [("without X", false), ("with X", true)] {
-        time_posts(sheets, posts, &accepted_posts(SEED, posts, with_phase_in));
+    for (sheets, measured) in [
+        ("without X", Measured::Plain),
+        ("with X", Measured::PhaseIn),
+        ("with two dropped quotes", Measured::TwoDropped),
+    ] {
+        time_posts(sheets, posts, &accepted_posts(SEED, posts, measured));
     }
-    time_pages(&accepted_posts(SEED, 1, false));
+    time_pages(&accepted_posts(SEED, 1, Measured::Plain));
 }
 
 fn time_posts(sheets: &str, posts: usize, journal: &[u8]) {

@@ -1,7 +1,8 @@
 //! Asks the proved library and the second implementation the same questions after seeded
 //! journals, each under several age limits, and compares answers and buffers. It prints how
-//! often each kind of question met each ground, and fails where one never met 16, or one that
-//! asks for rates never met 17.
+//! often each kind of question met each ground and what became of posts with dropped quotes, and
+//! fails where one never met 16, where one that asks for rates never met 17, or where no sheet
+//! was accepted with some gap that runs on over a dropped maturity.
 //!
 //!     differential [SEED [POSTS]]
 
@@ -10,6 +11,7 @@ use std::process::ExitCode;
 
 use interface::compare::{Case, Kind, Met, Question};
 use reference::desk::Call;
+use reference::dropped::DroppedPosts;
 use reference::journal::calls;
 use reference::questions::{age_limits, call, journal, limits_around};
 use reference::streams::Random;
@@ -31,10 +33,11 @@ fn main() -> ExitCode {
         eprintln!("usage: differential [SEED [POSTS]]");
         return ExitCode::from(2);
     };
-    let mut met = Met::default();
-    let compared = compare(seed, posts, &mut met);
-    println!("{met}");
-    match compared.and_then(|done| met.check(&Kind::ALL).map(|()| done)) {
+    let (mut met, mut dropped) = (Met::default(), DroppedPosts::default());
+    let compared = compare(seed, posts, &mut met, &mut dropped);
+    println!("{met}\n{dropped}");
+    let checked = met.check(&Kind::ALL).and_then(|()| dropped.check());
+    match compared.and_then(|done| checked.map(|()| done)) {
         Ok((journals, posts)) => {
             println!("libraries agree after {journals} journals with {posts} posts");
             ExitCode::SUCCESS
@@ -61,13 +64,19 @@ fn arguments() -> Option<(u64, u64)> {
 }
 
 /// The journals that it took to bring at least `posts` posts, and how many they brought.
-fn compare(seed: u64, posts: u64, met: &mut Met) -> Result<(u64, u64), String> {
+fn compare(
+    seed: u64,
+    posts: u64,
+    met: &mut Met,
+    dropped: &mut DroppedPosts,
+) -> Result<(u64, u64), String> {
     let (mut done, mut number) = (0, 0);
     while done < posts {
         // A seed of its own makes each journal repeatable without those before it.
         let mut random = Random::new(seed.wrapping_mul(1_000_003).wrapping_add(number));
         let journal = journal(&mut random);
         ask(&mut random, &journal, met).map_err(|text| format!("journal {number}: {text}"))?;
+        dropped.count_journal(&journal);
         let before = done;
         done += posts_in(&journal);
         number += 1;
