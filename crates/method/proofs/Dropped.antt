@@ -1,14 +1,25 @@
 -- What a volume of 0 does, and what a dropped quote does not.
-use mathlib.Core.Path.{_≡_, refl}
-use mathlib.Core.List.{List, _∷_}
-use Prim.Native.Nat.{ℕ}
-use lib.IntN.{ℤ, pos}
-use lib.ListN.{getD}
-use Rattle.method.specs.Grounds.{Ground, refused}
-use Rattle.method.specs.Sheet.{Numbers, maturities, readSheet}
-use Rattle.method.specs.Quotes.{used, kept}
-use Rattle.method.specs.Curve.{smoothingIndex, usedBy, factorOf, extended, curveOf, answer}
-use Rattle.method.proofs.Used.{kept-quotes}
+use mathlib.Core.Path.{_≡_, refl, ap, ap₂, sym, _∙_}
+use mathlib.Core.Bool.{Bool, true, false, false≢true}
+use mathlib.Core.List.{List, [], _∷_, map}
+use Prim.Native.Nat.{ℕ, zero, suc, _+_, _*_, _≤_, _<_}
+use native.Mathlib.Nat.{zero-lt-suc, mul-zero}
+use native.Mathlib.Omega.{arith}
+use borrow.Author.Tests.{lt-ltb}
+use lib.Dec.{lit≤, lit<}
+use lib.IntN.{ℤ, pos, _+ℤ_, _*ℤ_, zero-*ℤ}
+use lib.ListN.{length, drop, getD, length-map, length-drop}
+use lib.Seq.{getD-drop}
+use Rattle.fraction.specs.Rounding.{U, floor, ceiling}
+use Rattle.method.specs.Units.{Pair, pair, SignedPair, signedPair}
+use Rattle.method.specs.Grounds.{Ground, refused, done}
+use Rattle.method.specs.Sheet.{Numbers, maturities, volumeMaturities, total, readSheet}
+use Rattle.method.specs.Quotes.{used, kept, Bootstrap, bootstrap}
+use Rattle.method.specs.Series.{gapForward}
+use Rattle.method.specs.Extrapolation.{at, llfrNumerator, llfr}
+use Rattle.method.specs.Curve.{smoothingIndex, usedBy, usedQuotes, spread, gapForwards, factorOf, extended, curveOf, answer}
+use Rattle.method.proofs.Entries.{map-at}
+use Rattle.method.proofs.Used.{kept-quotes, kept-front, used-to, used-past, spread-length, as-many-marks, gaps-length}
 
 -- the smoothing year's volume drops no quote: it is a weight of LLFR and nothing else
 pub only-a-weight : (i v w : ℕ) (vs : List ℕ) → used i (v ∷ vs) ≡ used i (w ∷ vs)
@@ -26,15 +37,114 @@ withRates n rs =
       phaseIn = n .phaseIn;
     }
 
+-- the 20-year rate is among the used
+smoothing-rate : (vs : List ℕ) (rs : List ℤ) → getD (kept (used smoothingIndex vs) rs) smoothingIndex (pos 0) ≡ getD rs smoothingIndex (pos 0)
+unfolding used
+smoothing-rate vs rs = kept-front 13 _ rs smoothingIndex (pos 0) (lit< tt)
+
 -- rates that agree on the used quotes give the same curve, or the same refusal: a dropped quote has no say
-pub no-say : (n : Numbers) (rs : List ℤ) → kept (usedBy n) rs ≡ kept (usedBy n) (n .rates) →
-    getD rs smoothingIndex (pos 0) ≡ getD (n .rates) smoothingIndex (pos 0) → curveOf (withRates n rs) ≡ curveOf n
+pub no-say : (n : Numbers) (rs : List ℤ) → kept (usedBy n) rs ≡ kept (usedBy n) (n .rates) → curveOf (withRates n rs) ≡ curveOf n
 unfolding curveOf extended factorOf
-no-say n rs same at-20 =
+no-say n rs same =
     let us = usedBy n in
     rw (kept-quotes us maturities rs, kept-quotes us maturities (n .rates), same, at-20) refl
+  where
+    at-20 : getD rs smoothingIndex (pos 0) ≡ getD (n .rates) smoothingIndex (pos 0)
+    at-20 = sym (smoothing-rate (n .volumes) rs) ∙ ap (λ (zs : List ℤ). getD zs smoothingIndex (pos 0)) same ∙ smoothing-rate (n .volumes) (n .rates)
 
 -- but it is read: whatever the volumes, a sheet that fails one of 1 to 4 is turned down on it
 pub still-tested : (s : List ℕ) {g : Ground} → readSheet s ≡ refused g → answer s ≡ refused g
 unfolding answer
 still-tested s e = rw e refl
+
+-- ---- past the last used quote there is no weight: LLFR is the same whatever stands there
+
+some-kept : (us : List Bool) (ms : List ℕ) → length us ≡ length ms → (j : ℕ) → getD us j false ≡ true → 0 < length (kept us ms)
+unfolding kept
+some-kept [] ms l j m = absurd (false≢true m)
+some-kept (u ∷ us) [] l j m = absurd (omega arith)
+some-kept (true ∷ us) (k ∷ ms) l j m = omega arith
+some-kept (false ∷ us) (k ∷ ms) l zero m = absurd (false≢true m)
+some-kept (false ∷ us) (k ∷ ms) l (suc j) m = some-kept us ms (omega arith) j m
+
+-- up to a used quote nothing stands for a gap
+spread-agrees : {A : Type 0} (d e z : A) (us : List Bool) (ms : List ℕ) (xs : List A) → length us ≡ length ms → length xs ≡ length (kept us ms) →
+    (i j : ℕ) → i ≤ j → getD us j false ≡ true → getD (spread d us xs) i z ≡ getD (spread e us xs) i z
+unfolding spread kept
+spread-agrees d e z [] ms xs l c i j h m = refl
+spread-agrees d e z (u ∷ us) [] xs l c i j h m = absurd (omega arith)
+spread-agrees d e z (u ∷ us) (k ∷ ms) [] l c i j h m = absurd (omega (arith, some-kept (u ∷ us) (k ∷ ms) l j m))
+spread-agrees d e z (u ∷ us) (k ∷ ms) (x ∷ xs) l c zero j h m = refl
+spread-agrees d e z (u ∷ us) (k ∷ ms) (x ∷ xs) l c (suc i) zero h m = absurd (omega arith)
+spread-agrees d e z (true ∷ us) (k ∷ ms) (x ∷ xs) l c (suc i) (suc j) h m = spread-agrees d e z us ms xs (omega arith) (omega arith) i j (omega arith) m
+spread-agrees d e z (false ∷ us) (k ∷ ms) (x ∷ xs) l c (suc i) (suc j) h m = spread-agrees d e z us ms (x ∷ xs) (omega arith) c i j (omega arith) m
+
+weighed : (w v : ℕ) {g h : ℤ} → (0 < v → g ≡ h) → pos w *ℤ pos v *ℤ g ≡ pos w *ℤ pos v *ℤ h
+weighed w zero {g} {h} e = none g ∙ sym (none h)
+  where
+    none : (g : ℤ) → pos w *ℤ pos 0 *ℤ g ≡ pos 0
+    none g = ap (λ (k : ℕ). pos k *ℤ g) (mul-zero w) ∙ zero-*ℤ g
+weighed w (suc v) e = ap (λ (z : ℤ). pos w *ℤ pos (suc v) *ℤ z) (e (zero-lt-suc v))
+
+abbrev plus : ℤ → ℤ → ℤ
+plus a b = a +ℤ b
+
+pub numerator-same : (vs : List ℕ) (gs hs : List ℤ) →
+    ((i j : ℕ) → i ≤ j → j < 5 → 0 < getD vs j 0 → getD gs i (pos 0) ≡ getD hs i (pos 0)) → llfrNumerator vs gs ≡ llfrNumerator vs hs
+unfolding llfrNumerator
+numerator-same vs gs hs same =
+    ap₂ plus (ap₂ plus (ap₂ plus (ap₂ plus
+    (weighed 12 _ (same 0 0 (lit≤ tt) (lit< tt)))
+    (weighed 12 _ (same 1 1 (lit≤ tt) (lit< tt))))
+    (weighed 6 _ λ h. to30 2 (lit≤ tt) (lit< tt) h))
+    (weighed 3 _ λ h. to40 3 (lit≤ tt) (lit< tt) h))
+    (weighed 2 _ λ h. ap₂ plus (to40 4 (lit≤ tt) (lit< tt) h) (ap (λ (z : ℤ). pos 2 *ℤ z) (same 4 4 (lit≤ tt) (lit< tt) h)))
+  where
+    to30 : (j : ℕ) → 2 ≤ j → j < 5 → 0 < getD vs j 0 → at gs 2 +ℤ at gs 3 ≡ at hs 2 +ℤ at hs 3
+    to30 j l k h = ap₂ plus (same 1 j (omega arith) k h) (same 2 j l k h)
+
+    to40 : (j : ℕ) → 3 ≤ j → j < 5 → 0 < getD vs j 0 → at gs 2 +ℤ at gs 3 +ℤ pos 2 *ℤ at gs 4 ≡ at hs 2 +ℤ at hs 3 +ℤ pos 2 *ℤ at hs 4
+    to40 j l k h = ap₂ plus (to30 j (omega arith) k h) (ap (λ (z : ℤ). pos 2 *ℤ z) (same 3 j l k h))
+
+-- a volume above 0 marks its quote
+marked : (vs : List ℕ) (j : ℕ) → 0 < getD vs j 0 → getD (drop smoothingIndex (used smoothingIndex vs)) j false ≡ true
+marked vs zero h = getD-drop smoothingIndex (used smoothingIndex vs) 0 false ∙ used-to smoothingIndex vs smoothingIndex (lit≤ tt)
+marked vs (suc j) h =
+    getD-drop smoothingIndex (used smoothingIndex vs) (suc j) false
+    ∙ ap (λ (k : ℕ). getD (used smoothingIndex vs) k false) (omega arith)
+    ∙ used-past smoothingIndex vs j
+    ∙ lt-ltb 0 _ (rw (← one-plus j) at h)
+  where
+    one-plus : (j : ℕ) → 1 + j ≡ suc j
+    one-plus j = omega arith
+
+module _ (n : Numbers) {b : Bootstrap} (d : bootstrap (usedQuotes n) ≡ done b) (seventeen : length (n .rates) ≡ 17) (five : length (n .volumes) ≡ 5) where
+  -- the x of the stretches, with p where there is no gap
+  abbrev filled : Pair → List Pair
+  filled p = spread p (drop smoothingIndex (usedBy n)) (drop 2 (b .yearlyFactors))
+
+  filled-five : (p : Pair) → length (filled p) ≡ 5
+  unfolding volumeMaturities
+  filled-five p = spread-length p (drop smoothingIndex (usedBy n)) _ ∙ as-many-marks (n .volumes) five
+
+  module _ (f : SignedPair → ℤ) (p q : Pair) where
+    forward-at : (p : Pair) (i : ℕ) → i < 5 → getD (map f (map gapForward (filled p))) i (pos 0) ≡ f (gapForward (getD (filled p) i (pair 0 0)))
+    forward-at p i h =
+        map-at f (map gapForward (filled p)) i (signedPair (pos 0) (pos 0)) (pos 0) (omega (arith, length-map (filled p) gapForward, filled-five p))
+        ∙ ap f (map-at gapForward (filled p) i (pair 0 0) (signedPair (pos 0) (pos 0)) (omega (arith, filled-five p)))
+
+    same-numerator : llfrNumerator (n .volumes) (map f (map gapForward (filled p))) ≡ llfrNumerator (n .volumes) (map f (map gapForward (filled q)))
+    same-numerator =
+        numerator-same (n .volumes) _ _
+        λ i j h k v.
+        let us = drop smoothingIndex (usedBy n) in
+        let gaps = length-drop 2 (b .yearlyFactors) ∙ omega (arith, gaps-length n d seventeen) in
+        let agrees = spread-agrees p q (pair 0 0) us volumeMaturities _ (as-many-marks (n .volumes) five) gaps i j h (marked (n .volumes) j v) in
+        forward-at p i (omega arith) ∙ ap (λ (x : Pair). f (gapForward x)) agrees ∙ sym (forward-at q i (omega arith))
+
+  pub no-weight : (p : Pair) → llfr (n .volumes) (map gapForward (filled p)) ≡ llfr (n .volumes) (gapForwards n b)
+  unfolding llfr
+  no-weight p =
+      ap₂ signedPair
+      (ap (λ (z : ℤ). floor z (12 * total (n .volumes))) (same-numerator (λ g. g .low) p (pair U U)))
+      (ap (λ (z : ℤ). ceiling z (12 * total (n .volumes))) (same-numerator (λ g. g .high) p (pair U U)))

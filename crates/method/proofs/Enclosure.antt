@@ -2,7 +2,6 @@
 use mathlib.Core.Path.{_≡_, refl, ap, sym, _∙_}
 use mathlib.Core.List.{List, [], _∷_, map}
 use Prim.Native.Nat.{ℕ, zero, suc, _+_, _-_, _≤_, _<_, zero-le}
-use native.Mathlib.Nat.{le-of-suc-le-suc}
 use native.Mathlib.Omega.{arith}
 use lib.Dec.{leb→le, lit≤}
 use lib.IntN.{ℤ, pos}
@@ -21,6 +20,7 @@ use Rattle.method.specs.Curve.{Curve, smoothingYear, smoothingIndex, use
 use Rattle.method.specs.True.{minusLog, Liquid, liquid, yearlyTo, lastLiquidForward, toLastYear, trueCurve, trueFactor}
 use Rattle.method.specs.Enclosure.{CurveHolds, lowOf, highOf}
 use Rattle.method.proofs.Outcome.{bind-done, done-injective}
+use Rattle.method.proofs.Entries.{map-at}
 use Rattle.method.proofs.Enclosed.{AllEnclosed, enclosed-take, enclosed-at, enclosed-length}
 use Rattle.method.proofs.QuotesBounds.{each-at, each-drop, bootstrap-bounded}
 use Rattle.method.proofs.Used.{kept-above, beside-used, usedMaturities, used-climb, climbs-rise, usedRates, used-apart, quoted-length, gaps-length}
@@ -36,11 +36,6 @@ use Rattle.method.proofs.Extended.{Usable, HighsAtMost, Extends, extend
 use Rattle.method.specs.Ranges.{Each, Factor, YearlyFactor, RateInRange, NumbersInRange}
 
 -- ---- lists
-
-map-at {ℓ κ} : {A : Type ℓ} {B : Type κ} (f : A → B) (xs : List A) (i : ℕ) (d : A) (e : B) → i < length xs → getD (map f xs) i e ≡ f (getD xs i d)
-map-at f [] i d e h = absurd (omega arith)
-map-at f (x ∷ xs) zero d e h = refl
-map-at f (x ∷ xs) (suc i) d e h = map-at f xs i d e (le-of-suc-le-suc h)
 
 factors-at-most : {ps : List Pair} → Each Factor ps → HighsAtMost ps
 factors-at-most Each.none i = zero-le

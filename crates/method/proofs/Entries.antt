@@ -1,7 +1,8 @@
--- A list spelled out entry by entry, by its length.
+-- The entries of a list: spelled out one by one, by its length; under a map.
 use mathlib.Core.Path.{_≡_, refl, ap, subst, _∙_}
-use mathlib.Core.List.{List, [], _∷_}
-use Prim.Native.Nat.{ℕ, zero, suc}
+use mathlib.Core.List.{List, [], _∷_, map}
+use Prim.Native.Nat.{ℕ, zero, suc, _<_}
+use native.Mathlib.Omega.{arith}
 use lib.ListN.{length, getD}
 
 module _ {A : Type 0} (d : A) where
@@ -20,3 +21,9 @@ module _ {A : Type 0} (d : A) where
 
   pub spelled-out : (xs : List A) {n : ℕ} → length xs ≡ n → entries xs 0 n ≡ xs
   spelled-out xs e = subst (λ (n : ℕ). entries xs 0 n ≡ xs) e (all-entries xs)
+
+-- below the length, whatever stands for an entry past the end
+pub map-at : {A B : Type 0} (f : A → B) (xs : List A) (i : ℕ) (d : A) (e : B) → i < length xs → getD (map f xs) i e ≡ f (getD xs i d)
+map-at f [] i d e h = absurd (omega arith)
+map-at f (x ∷ xs) zero d e h = refl
+map-at f (x ∷ xs) (suc i) d e h = map-at f xs i d e (omega arith)

@@ -77,6 +77,14 @@ kept-above (u ∷ us) [] h = tt
 kept-above (true ∷ us) (r ∷ rs) h = (h .0, kept-above us rs (h .1))
 kept-above (false ∷ us) (r ∷ rs) h = kept-above us rs (h .1)
 
+-- the first are kept where they stand
+pub kept-front : {A : Type 0} (k : ℕ) (us : List Bool) (xs : List A) (i : ℕ) (d : A) → i < k → getD (kept (replicate k true ++ us) xs) i d ≡ getD xs i d
+unfolding kept
+kept-front zero us xs i d h = absurd (omega arith)
+kept-front (suc k) us [] i d h = refl
+kept-front (suc k) us (x ∷ xs) zero d h = refl
+kept-front (suc k) us (x ∷ xs) (suc i) d h = kept-front k us xs i d (omega arith)
+
 -- every mark set: nothing is dropped
 pub kept-all : {A : Type 0} (xs : List A) → kept (replicate (length xs) true) xs ≡ xs
 unfolding kept
