@@ -12,7 +12,8 @@
  * answered as with any other limit.
  *
  * This is the interface from the zero rates (U3) on: a look-up's reply has 28 bytes, and had 12. Later ones insert parameters,
- * so a program is compiled with the header of the library that it is linked with.
+ * so a program is compiled with the header of the library that it is linked with. From U5 on a sheet's volume of 0 at 25, 30, 40
+ * or 50 years drops the quote of that maturity; no function has changed for it.
  *
  * It is proved of tuyqorem_look_after and tuyqorem_page_after, for every age limit and every journal: no curve is found
  * exactly when no post of the journal was accepted; a curve older than the limit answers 16; otherwise month and age are
