@@ -9,14 +9,14 @@ use native.Mathlib.Omega.{arith}
 use borrow.Author.Tests.{leb-true, le-leb}
 use lib.Dec.{leb}
 use lib.ListN.{length}
-use Rattle.method.specs.Units.{Pair, SignedPair}
+use Rattle.method.specs.Units.{Which, Pair, SignedPair}
 use Rattle.method.specs.Grounds.{yearOutside, bufferTooShort, ageAboveLimit, noHighRate, refused, done, _>>=_, demand}
-use Rattle.method.specs.Curve.{Curve}
+use Rattle.method.specs.Curve.{Curve, Held, none, some}
 use Rattle.method.proofs.Outcome.{split, bind-done, demand-done, done-injective, refused-not-done, both-true}
 use Rattle.zero_rates.specs.Rates.{greatestMultiplier, reaches, zeroRates}
 use Rattle.ledger.specs.Answers.{Finding, answerNumber}
-use Rattle.ledger.specs.Book.{Standing, none, some, Book, postOutcome, post, withTold, turnOutcome, turn}
-use Rattle.ledger.specs.Book.{young, openCurve, yearInside, bandAt, lookIn, pageOutcome, pagedBy, pageIn}
+use Rattle.ledger.specs.Book.{Book, postOutcome, post, withTold, turnOutcome, turn}
+use Rattle.ledger.specs.Book.{named, young, openCurve, yearInside, bandAt, lookIn, pageOutcome, pagedBy, pageIn}
 use Rattle.ledger.specs.Calls.{Question, lookAt, pageInto, Call, asks, answered, answerOf}
 use Rattle.ledger.specs.Count.{Count, count}
 use Rattle.ledger.specs.Demands.{Closes, TurnCloses, OnlyCloses}
@@ -27,19 +27,19 @@ use Rattle.ledger.proofs.FirstGround.{posted-answer, turned-answer}
 
 -- ---- a turn closes a curve
 
-open-stands : (s : Standing) (told limit : ℕ) (c : Curve) → openCurve s told limit ≡ done c → s ≡ some c
+open-stands : (s : Held Curve) (told limit : ℕ) (c : Curve) → openCurve s told limit ≡ done c → s ≡ some c
 open-stands none told limit c e = absurd (refused-not-done e)
 open-stands (some d) told limit c e = ap some (done-injective (demand-done (young d told limit) ageAboveLimit _ e .1))
 
 -- a look-up that found something
-record Shown (s : Standing) (y : ℕ) (f : Finding) : Type 0 where
+record Shown (s : Held Curve) (y : ℕ) (f : Finding) : Type 0 where
   from-1 : 1 ≤ y
   to-150 : y ≤ 150
   curve : Curve
   stands : s ≡ some curve
   month-shown : f .month ≡ curve .month
 
-shown-by : (s : Standing) (told limit y : ℕ) (f : Finding) → lookIn s told limit y ≡ done f → Shown s y f
+shown-by : (s : Held Curve) (told limit y : ℕ) (f : Finding) → lookIn s told limit y ≡ done f → Shown s y f
 unfolding lookIn
 shown-by s told limit y f e =
     let inside = demand-done (yearInside y) yearOutside _ e in
@@ -54,24 +54,25 @@ shown-by s told limit y f e =
       month-shown = ap (λ (g : Finding). g .month) (sym (done-injective (rated .2)));
     }
 
-turn-closes-it : (b : Book) (y m : ℕ) (f : Finding) → Shown (b .standing) y f → b .told ≤ m → m ≤ 2_399 → f .month + b .ageLimit < m → Closes b y m
+turn-closes-it : (b : Book) (w : Which) (y m : ℕ) (f : Finding) → Shown (named w (b .standing)) y f → b .told ≤ m → m ≤ 2_399 →
+    f .month + b .ageLimit < m → Closes b w y m
 unfolding turn turnOutcome
-turn-closes-it b y m f s to last older =
+turn-closes-it b w y m f s to last older =
     record {
       accepted = rw turned;
       still-held = rw turned;
-      closed = rw turned (look-closed (b .standing) m (b .ageLimit) y too-old (s .from-1) (s .to-150));
+      closed = rw turned (look-closed (named w (b .standing)) m (b .ageLimit) y too-old (s .from-1) (s .to-150));
     }
   where
     turned : turn b m ≡ record { book = withTold b m; answer = done m }
     turned = rw (le-leb m 2_399 last, le-leb (b .told) m to)
 
-    too-old : openCurve (b .standing) m (b .ageLimit) ≡ refused ageAboveLimit
-    too-old = closed-old (b .standing) m (b .ageLimit) (s .curve) (s .stands) (omega (arith, older, s .month-shown))
+    too-old : openCurve (named w (b .standing)) m (b .ageLimit) ≡ refused ageAboveLimit
+    too-old = closed-old (named w (b .standing)) m (b .ageLimit) (s .curve) (s .stands) (omega (arith, older, s .month-shown))
 
 pub turn-closes : (b : Book) → TurnCloses b
-turn-closes b y m f e to last older =
-    turn-closes-it b y m f (shown-by (b .standing) (b .told) (b .ageLimit) y f e) to last older
+turn-closes b w y m f e to last older =
+    turn-closes-it b w y m f (shown-by (named w (b .standing)) (b .told) (b .ageLimit) y f e) to last older
 
 -- ---- and the limit does nothing else
 
@@ -80,11 +81,11 @@ module _ (told : ℕ) (m : told ≤ 2_399) where
   largest-opens : (c : Curve) → openCurve (some c) told 2_399 ≡ done c
   largest-opens c = rw (le-leb (told - c .month) 2_399 (omega arith))
 
-  closed-or-open : (s : Standing) (limit : ℕ) → (openCurve s told limit ≡ refused ageAboveLimit) ⊎ (openCurve s told limit ≡ openCurve s told 2_399)
+  closed-or-open : (s : Held Curve) (limit : ℕ) → (openCurve s told limit ≡ refused ageAboveLimit) ⊎ (openCurve s told limit ≡ openCurve s told 2_399)
   closed-or-open none limit = inr refl
   closed-or-open (some c) limit = split (leb (told - c .month) limit) (λ q. inr (rw (q, largest-opens c))) (λ q. inl (rw q))
 
-  look-closed-or-same : (s : Standing) (limit y : ℕ) → (answerNumber (lookIn s told limit y) ≡ 16) ⊎ (lookIn s told limit y ≡ lookIn s told 2_399 y)
+  look-closed-or-same : (s : Held Curve) (limit y : ℕ) → (answerNumber (lookIn s told limit y) ≡ 16) ⊎ (lookIn s told limit y ≡ lookIn s told 2_399 y)
   unfolding lookIn
   look-closed-or-same s limit y = split (leb 1 y && leb y 150) (λ inside. go inside (closed-or-open s limit)) (λ outside. inr (rw outside))
     where
@@ -94,7 +95,7 @@ module _ (told : ℕ) (m : told ≤ 2_399) where
       go inside (inr e) = inr (rw e)
 
   page-closed-or-same :
-      (s : Standing) (limit : ℕ) (l : List ℕ) → (answerNumber (pageIn s told limit l .answer) ≡ 16) ⊎ (pageIn s told limit l ≡ pageIn s told 2_399 l)
+      (s : Held Curve) (limit : ℕ) (l : List ℕ) → (answerNumber (pageIn s told limit l .answer) ≡ 16) ⊎ (pageIn s told limit l ≡ pageIn s told 2_399 l)
   unfolding pageOutcome
   page-closed-or-same s limit l = go (closed-or-open s limit)
     where
@@ -104,7 +105,7 @@ module _ (told : ℕ) (m : told ≤ 2_399) where
       go (inr e) = inr (rw e)
 
   -- 13, 14, 17 or 0
-  look-never-closed : (s : Standing) (y : ℕ) → answerNumber (lookIn s told 2_399 y) ≡ 16 → ⊥
+  look-never-closed : (s : Held Curve) (y : ℕ) → answerNumber (lookIn s told 2_399 y) ≡ 16 → ⊥
   unfolding lookIn
   look-never-closed s y e = go s (leb 1 y && leb y 150) _ _ e
     where
@@ -113,14 +114,14 @@ module _ (told : ℕ) (m : told ≤ 2_399) where
       rated true r found e = omega (arith, e)
       rated false r found e = omega (arith, e)
 
-      go : (s : Standing) (inside : Bool) (band : Curve → Pair) (found : Curve → SignedPair → Finding) →
+      go : (s : Held Curve) (inside : Bool) (band : Curve → Pair) (found : Curve → SignedPair → Finding) →
           answerNumber (demand inside yearOutside >>= (λ _. openCurve s told 2_399 >>= (λ c. zeroRates y (band c) >>= (λ r. done (found c r))))) ≡ 16 → ⊥
       go s false band found e = omega (arith, e)
       go none true band found e = omega (arith, e)
       go (some c) true band found e = rated (reaches y (band c .low) greatestMultiplier) _ (found c) (rw (largest-opens c) at e)
 
   -- 14, 15 or 0
-  page-never-closed : (s : Standing) (l : List ℕ) → answerNumber (pageIn s told 2_399 l .answer) ≡ 16 → ⊥
+  page-never-closed : (s : Held Curve) (l : List ℕ) → answerNumber (pageIn s told 2_399 l .answer) ≡ 16 → ⊥
   unfolding pageOutcome
   page-never-closed s l e = go s (leb 1_505 (length l)) _ e
     where
@@ -128,7 +129,7 @@ module _ (told : ℕ) (m : told ≤ 2_399) where
       written true out e = omega (arith, e)
       written false out e = omega (arith, e)
 
-      go : (s : Standing) (long : Bool) (over : Curve → List ℕ) →
+      go : (s : Held Curve) (long : Bool) (over : Curve → List ℕ) →
           answerNumber (pagedBy l (openCurve s told 2_399 >>= (λ c. demand long bufferTooShort >>= (λ _. done (over c)))) .answer) ≡ 16 → ⊥
       go none long over e = omega (arith, e)
       go (some c) long over e = written long (over c) (rw (largest-opens c) at e)
@@ -148,12 +149,12 @@ same-turns-of limit c m =
 
 question-closed-or-same : (limit : ℕ) (c : Count) → c .told ≤ 2_399 → (q : Question) →
     (answerOf (bookOf limit c) (asks q) .number ≡ 16) ⊎ (answered (bookOf limit c) q ≡ answered (bookOf 2_399 c) q)
-question-closed-or-same limit c m (lookAt y) = look-closed-or-same (c .told) m _ limit y
-question-closed-or-same limit c m (pageInto l) = page-closed-or-same (c .told) m _ limit l
+question-closed-or-same limit c m (lookAt w y) = look-closed-or-same (c .told) m _ limit y
+question-closed-or-same limit c m (pageInto w l) = page-closed-or-same (c .told) m _ limit l
 
 question-never-closed : (c : Count) → c .told ≤ 2_399 → (q : Question) → answerOf (bookOf 2_399 c) (asks q) .number ≡ 16 → ⊥
-question-never-closed c m (lookAt y) e = look-never-closed (c .told) m _ y e
-question-never-closed c m (pageInto l) e = page-never-closed (c .told) m _ l e
+question-never-closed c m (lookAt w y) e = look-never-closed (c .told) m _ y e
+question-never-closed c m (pageInto w l) e = page-never-closed (c .told) m _ l e
 
 pub only-closes : (limit : ℕ) (cs : List Call) → OnlyCloses limit cs
 only-closes limit cs =

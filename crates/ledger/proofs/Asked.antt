@@ -8,15 +8,15 @@ use borrow.Author.Tests.{leb-true, leb-false, le-leb, lt-leb}
 use lib.Dec.{leb}
 use lib.ListN.{length, drop, length-append, length-drop}
 use lib.Seq.{drop-at}
-use Rattle.method.specs.Units.{pair}
+use Rattle.method.specs.Units.{Which, pair}
 use Rattle.method.specs.Grounds.{Ground, numberOf, yearOutside, noCurve, bufferTooShort, ageAboveLimit, Outcome, refused, done, _>>=_, demand}
-use Rattle.method.specs.Curve.{Curve}
+use Rattle.method.specs.Curve.{Curve, Held, none, some}
 use Rattle.method.specs.Enclosure.{lowOf, highOf}
 use Rattle.method.proofs.Outcome.{split}
 use Rattle.zero_rates.specs.Rates.{zeroRates}
 use Rattle.ledger.specs.Answers.{answerNumber, finding}
 use Rattle.ledger.specs.Page.{pageBytes}
-use Rattle.ledger.specs.Book.{Standing, none, some, Book, Paged, age, young, openCurve, bandAt, lookIn, pageOutcome, pagedBy, pageIn, page}
+use Rattle.ledger.specs.Book.{Book, Paged, named, age, young, openCurve, bandAt, lookIn, pageOutcome, pagedBy, pageIn, page}
 use Rattle.ledger.specs.Tells.{PageWritten}
 use Rattle.ledger.specs.Demands.{CurveFits}
 use Rattle.ledger.proofs.PageLaws.{page-length, page-read}
@@ -29,7 +29,7 @@ refusal-kept p q = let z : _≡_ {A = ℕ} 0 1 = cc in omega arith
 pub other-ground : {A : Type 0} {a : Outcome A} {g h : Ground} → a ≡ refused g → a ≡ refused h → (numberOf g ≡ numberOf h → ⊥) → ⊥
 other-ground {a} p q n = n (sym (ap answerNumber p) ∙ ap answerNumber q)
 
-module _ (s : Standing) (told limit : ℕ) where
+module _ (s : Held Curve) (told limit : ℕ) where
   -- ---- open or closed
 
   pub open-within : (c : Curve) → s ≡ some c → told - c .month ≤ limit → openCurve s told limit ≡ done c
@@ -88,14 +88,15 @@ paged-refused : (l : List ℕ) (o : Outcome (List ℕ)) (g : Ground) → pagedBy
 paged-refused l (refused x) g e = refl
 paged-refused l (done out) g e = absurd (refusal-kept {a = done tt} refl e)
 
-pub page-refused : (b : Book) (l : List ℕ) (g : Ground) → page b l .answer ≡ refused g → page b l .buffer ≡ l
-page-refused b l g e = paged-refused l (pageOutcome (b .standing) (b .told) (b .ageLimit) l) g e
+pub page-refused : (b : Book) (w : Which) (l : List ℕ) (g : Ground) → page b w l .answer ≡ refused g → page b w l .buffer ≡ l
+page-refused b w l g e = paged-refused l (pageOutcome (named w (b .standing)) (b .told) (b .ageLimit) l) g e
 
 -- a page carries exactly the numbers of the book
 pub page-of-book :
-    (b : Book) (c : Curve) (l : List ℕ) → b .standing ≡ some c → CurveFits (b .told) c → b .told - c .month ≤ b .ageLimit → 1_505 ≤ length l →
-    PageWritten l (c .month) (b .told - c .month) (λ y. pair (lowOf c y) (highOf c y)) (page b l)
-page-of-book b c l e f within h =
+    (b : Book) (w : Which) (c : Curve) (l : List ℕ) →
+    named w (b .standing) ≡ some c → CurveFits (b .told) c → b .told - c .month ≤ b .ageLimit → 1_505 ≤ length l →
+    PageWritten l (c .month) (b .told - c .month) (λ y. pair (lowOf c y) (highOf c y)) (page b w l)
+page-of-book b w c l e f within h =
     record {
       written = ap (λ (p : Paged). p .answer) whole;
       read = rw whole (page-read _ _ _ _ (drop 1_505 l) (f .lows-150) (f .highs-150) (f .month-fits) (f .age-fits) (f .low-fits) (f .high-fits));
@@ -106,9 +107,10 @@ page-of-book b c l e f within h =
     out : List ℕ
     out = pageBytes (c .month) (age (b .told) c) (c .lows) (c .highs)
 
-    whole : page b l ≡ record { buffer = out ++ drop 1_505 l; answer = done tt }
+    whole : page b w l ≡ record { buffer = out ++ drop 1_505 l; answer = done tt }
     whole =
-        page-open (b .standing) (b .told) (b .ageLimit) l c (open-within (b .standing) (b .told) (b .ageLimit) c e within) h
+        let k = named w (b .standing) in
+        page-open k (b .told) (b .ageLimit) l c (open-within k (b .told) (b .ageLimit) c e within) h
 
     bytes : length out ≡ 1_505
     bytes = page-length _ _ _ _ [] (f .lows-150) (f .highs-150)

@@ -6,30 +6,31 @@ use Prim.Native.Nat.{ℕ, _≤_}
 use native.Mathlib.Omega.{arith}
 use borrow.Author.Tests.{leb-true}
 use lib.Dec.{T, leb}
-use lib.ListN.{length}
 use Rattle.method.specs.Grounds.{afterToldMonth, beforeStandingCurve, Outcome, refused, done, _>>=_, demand}
-use Rattle.method.specs.Sheet.{Numbers, layoutOf, sizeOf, readSheet}
-use Rattle.method.specs.Curve.{Curve, curveOf, answer}
-use Rattle.method.proofs.Enclosure.{enclosure}
+use Rattle.method.specs.Sheet.{Numbers, sheetNumbers, readSheet}
+use Rattle.method.specs.Units.{Which, plain, adjusted}
+use Rattle.method.specs.Curve.{Curve, Held, none, some, Curves, curveNamed, adjustedCurve, adjustedIf, curvesOf, answer}
+use Rattle.method.proofs.Enclosure.{Worked, worked, enclosure}
 use Rattle.method.proofs.Reading.{read-passes}
-use Rattle.method.proofs.Outcome.{split, bind-done, demand-done}
-use Rattle.ledger.specs.Book.{Standing, none, some, Book, notBefore, postOutcome, post, turnOutcome, turn}
+use Rattle.method.proofs.Outcome.{split, bind-done, demand-done, done-injective}
+use Rattle.ledger.specs.Book.{Standing, Book, notBefore, postOutcome, post, turnOutcome, turn}
 use Rattle.ledger.specs.Calls.{Call, postOf, turnTo, asks, after, runFrom}
-use Rattle.ledger.specs.Count.{LastSheet, unposted, posted, Count, monthOf, isDone, works, inOrder, acceptsSheet, acceptsMonth, counted, countFrom, typed}
+use Rattle.ledger.specs.Count.{LastSheet, unposted, posted, Count, monthOf, hasAdjustment, carries, isDone}
+use Rattle.ledger.specs.Count.{works, inOrder, acceptsSheet, acceptsMonth, counted, countFrom, typed}
 use Rattle.ledger.specs.Demands.{sheetAfter, toldAfter}
 use Rattle.ledger.proofs.Typed.{typed-is}
 
 -- ---- a sheet that was read has the numbers of its bytes
 
 pub read-typed : (s : List ℕ) {n : Numbers} → readSheet s ≡ done n → n ≡ typed s
-read-typed s {n} e = let p = read-passes s n e in sym (p .numbers) ∙ typed-is s (p .long)
+read-typed s {n} e = let p = read-passes s n e in sym (p .numbers) ∙ typed-is s (p .long) (p .right)
 
 read-month : (s : List ℕ) {n : Numbers} → readSheet s ≡ done n → n .month ≡ monthOf s
 unfolding typed
 read-month s e = ap (λ (k : Numbers). k .month) (read-typed s e)
 
 -- a post that goes through works the sheet that its bytes alone give
-pub outcome-answer : (b : Book) (s : List ℕ) {k : Curve} → postOutcome b s ≡ done k → answer s ≡ done k
+pub outcome-answer : (b : Book) (s : List ℕ) {k : Curves} → postOutcome b s ≡ done k → answer s ≡ done k
 unfolding postOutcome answer
 outcome-answer b s e =
     let read = bind-done (readSheet s) _ e in
@@ -40,9 +41,9 @@ outcome-answer b s e =
 
 -- ---- the book that a count stands for
 
-abbrev pub standingIn : Outcome Curve → Standing
+abbrev pub standingIn : Outcome Curves → Standing
 standingIn (refused g) = none
-standingIn (done c) = some c
+standingIn (done cs) = some cs
 
 abbrev pub standingOf : LastSheet → Standing
 standingOf unposted = none
@@ -90,26 +91,59 @@ pub all-sound : (c : Count) → SoundCount c → (ds : List Call) → SoundCount
 all-sound c g [] = g
 all-sound c g (d ∷ ds) = all-sound (counted c d) (sound c g d) ds
 
-pub works-done : (s : List ℕ) → works s ≡ true → (c : Curve) × (answer s ≡ done c)
+pub works-done : (s : List ℕ) → works s ≡ true → (cs : Curves) × (answer s ≡ done cs)
 works-done s e = go (answer s) refl e
   where
-    go : (o : Outcome Curve) → answer s ≡ o → isDone o ≡ true → (c : Curve) × (answer s ≡ done c)
+    go : (o : Outcome Curves) → answer s ≡ o → isDone o ≡ true → (cs : Curves) × (answer s ≡ done cs)
     go (refused g) h t = absurd (subst T (sym t) tt)
-    go (done c) h t = (c, h)
+    go (done cs) h t = (cs, h)
 
--- a sheet that works has its records' length, and its curve has the month of its bytes
-pub answer-length : (s : List ℕ) {c : Curve} → answer s ≡ done c → length s ≡ sizeOf (layoutOf s)
+-- a sheet that works is typed as its records are
+pub answer-typed : (s : List ℕ) {cs : Curves} → answer s ≡ done cs → sheetNumbers s ≡ typed s
 unfolding answer
-answer-length s e = let read = bind-done (readSheet s) curveOf e in read-passes s (read .0) (read .1) .long
+answer-typed s e =
+    let read = bind-done (readSheet s) curvesOf e in
+    let p = read-passes s (read .0) (read .1) in
+    typed-is s (p .long) (p .right)
 
-pub answer-month : (s : List ℕ) {c : Curve} → answer s ≡ done c → c .month ≡ monthOf s
+-- each of its curves has the month of its bytes
+pub curve-month : (w : Which) (s : List ℕ) {cs : Curves} → answer s ≡ done cs → (c : Curve) → curveNamed w cs ≡ some c → c .month ≡ monthOf s
 unfolding typed
-answer-month s {c} e = enclosure s c e .month-kept ∙ ap (λ (k : Numbers). k .month) (typed-is s (answer-length s e))
+curve-month w s {cs} e c named = enclosure w s cs e c named .month-kept ∙ ap (λ (k : Numbers). k .month) (answer-typed s e)
+
+pub answer-month : (s : List ℕ) {cs : Curves} → answer s ≡ done cs → cs .plain .month ≡ monthOf s
+answer-month s {cs} e = curve-month plain s e (cs .plain) refl
+
+-- ---- the curve that is named
+
+adjusted-there : (t : Bool) (n : Numbers) {k : Held Curve} → t ≡ true → adjustedIf t n ≡ done k → (c : Curve) × (k ≡ some c)
+adjusted-there true n t e = let made = bind-done (adjustedCurve n) _ e in (made .0, sym (done-injective (made .2)))
+adjusted-there false n t e = absurd (subst T (sym t) tt)
+
+adjusted-not-there : (t : Bool) (n : Numbers) {k : Held Curve} → t ≡ false → adjustedIf t n ≡ done k → k ≡ none
+adjusted-not-there true n t e = absurd (subst T t tt)
+adjusted-not-there false n t e = sym (done-injective e)
+
+-- what the sheet was worked from
+worked-from : (s : List ℕ) {cs : Curves} → answer s ≡ done cs → (n : Numbers) × (n .adjusts ≡ hasAdjustment s) × Worked n cs
+unfolding answer typed
+worked-from s {cs} e =
+    let read = bind-done (readSheet s) curvesOf e in
+    (read .0, ap (λ (k : Numbers). k .adjusts) (read-typed s (read .1)), worked (read .0) cs (read .2))
+
+-- an adjusted curve is there exactly where the bytes have an adjustment
+pub curve-there : (w : Which) (s : List ℕ) {cs : Curves} → answer s ≡ done cs → carries w s ≡ true → (c : Curve) × (curveNamed w cs ≡ some c)
+curve-there plain s {cs} e t = (cs .plain, refl)
+curve-there adjusted s e t = let (n, same, made) = worked-from s e in adjusted-there (n .adjusts) n (same ∙ t) (made .adjusted-done)
+
+pub curve-missing : (w : Which) (s : List ℕ) {cs : Curves} → answer s ≡ done cs → carries w s ≡ false → curveNamed w cs ≡ none
+curve-missing plain s e t = absurd (subst T t tt)
+curve-missing adjusted s e t = let (n, same, made) = worked-from s e in adjusted-not-there (n .adjusts) n (same ∙ t) (made .adjusted-done)
 
 -- ---- post
 
 -- grounds 5 and 6 before the curve's own, or all three at once
-in-any-order : (o : Outcome Curve) (five six : Bool) →
+in-any-order : (o : Outcome Curves) (five six : Bool) →
     (isDone o && (five && six)) ≡ isDone (demand five afterToldMonth >>= (λ _. demand six beforeStandingCurve >>= (λ _. o)))
 in-any-order (refused g) true true = refl
 in-any-order (refused g) true false = refl
@@ -118,7 +152,7 @@ in-any-order (done c) true true = refl
 in-any-order (done c) true false = refl
 in-any-order (done c) false six = refl
 
-same-tests : (o : Outcome Curve) (five six five′ six′ : Bool) → five′ ≡ five → six′ ≡ six →
+same-tests : (o : Outcome Curves) (five six five′ six′ : Bool) → five′ ≡ five → six′ ≡ six →
     (isDone o && (five && six)) ≡ isDone (demand five′ afterToldMonth >>= (λ _. demand six′ beforeStandingCurve >>= (λ _. o)))
 same-tests o five six five′ six′ p q = rw (p, q) (in-any-order o five six)
 
@@ -136,7 +170,7 @@ accepts-post limit c g s = go (readSheet s) refl
     go (done n) e =
         let m = read-month s e in
         rw e
-        (same-tests (curveOf n) _ _ _ _ (ap (λ (k : ℕ). leb k (c .told)) m)
+        (same-tests (curvesOf n) _ _ _ _ (ap (λ (k : ℕ). leb k (c .told)) m)
         (ap (λ (k : ℕ). notBefore (standingOf (c .sheet)) k) m ∙ in-order (c .told) (c .sheet) (g .1) (monthOf s)))
 
 -- the book, and what the caller saw
@@ -148,7 +182,7 @@ post-moves : (limit : ℕ) (c : Count) → SoundCount c → (s : List ℕ) → M
 unfolding post
 post-moves limit c g s = go (postOutcome (bookOf limit c) s) refl
   where
-    go : (o : Outcome Curve) → postOutcome (bookOf limit c) s ≡ o → Moved limit c s
+    go : (o : Outcome Curves) → postOutcome (bookOf limit c) s ≡ o → Moved limit c s
     go (refused x) e = record { book = rw (accepts-post limit c g s, e); sheet = rw (accepts-post limit c g s, e) }
     go (done k) e =
         record {

@@ -8,7 +8,7 @@ use native.Mathlib.Omega.{arith}
 use lib.IntN.{ℤ, pos}
 use lib.ListN.{replicate, take, drop}
 use lib.Signed.{leZ-yes}
-use Rattle.method.specs.Units.{pair, SignedPair, signedPair}
+use Rattle.method.specs.Units.{plain, pair, SignedPair, signedPair}
 use Rattle.method.specs.Grounds.{numberOf, noCurve, ageAboveLimit, Outcome, refused, done}
 use Rattle.method.specs.Figures.{sheetOf, rateRecords, volumeRecords}
 use Rattle.method.proofs.Computes.{computes}
@@ -39,8 +39,8 @@ morning = turnTo 2 ∷ postOf february ∷ []
 
 day : List Call
 day =
-    asks (lookAt 1) ∷ postOf february ∷ turnTo 2 ∷ postOf february ∷ asks (lookAt 20) ∷ postOf march ∷ postOf february ∷ turnTo 1
-    ∷ turnTo 2_400 ∷ postOf [] ∷ turnTo 3 ∷ asks (pageInto []) ∷ []
+    asks (lookAt plain 1) ∷ postOf february ∷ turnTo 2 ∷ postOf february ∷ asks (lookAt plain 20) ∷ postOf march ∷ postOf february ∷ turnTo 1
+    ∷ turnTo 2_400 ∷ postOf [] ∷ turnTo 3 ∷ asks (pageInto plain []) ∷ []
 
 -- opens what the examples compute with
 calls-open : ℕ
@@ -49,7 +49,7 @@ calls-open = 0
 
 -- a look-up: the ground's number, or 0, low, high, month and age
 look : Book → ℕ → List ℕ
-look b y = numbers (lookUp b y)
+look b y = numbers (lookUp b plain y)
   where
     numbers : Outcome Finding → List ℕ
     numbers (refused g) = numberOf g ∷ []
@@ -69,14 +69,14 @@ early = look (fresh 2_399) 20 ∷ answers (post (fresh 2_399) february .answer) 
 -- the record of year 20, and the byte past it; 15
 evening : Book → List (List ℕ)
 evening b =
-    let out = page b (replicate 1_506 7) .buffer in
+    let out = page b plain (replicate 1_506 7) .buffer in
     look b 20
     ∷ answers (post b february .answer)
     ∷ answers (turn b 2 .answer)
     ∷ take 5 out
     ∷ take 10 (drop 195 out)
     ∷ drop 1_505 out
-    ∷ answers (page b [] .answer)
+    ∷ answers (page b plain [] .answer)
     ∷ []
 
 opens : ℕ
@@ -121,11 +121,11 @@ at-limit = turnTo 10 ∷ postOf old ∷ []
 -- of month 6 is before it, and one of month 8 opens the book again
 aging : Book → List (List ℕ)
 aging b =
-    let older = runFrom b (asks (lookAt 20) ∷ turnTo 11 ∷ []) in
+    let older = runFrom b (asks (lookAt plain 20) ∷ turnTo 11 ∷ []) in
     look b 20
     ∷ look older 20
     ∷ look older 0
-    ∷ answers (page older [] .answer)
+    ∷ answers (page older plain [] .answer)
     ∷ answers (post older (flat 6 0) .answer)
     ∷ look (runFrom older (postOf (flat 8 0) ∷ [])) 20
     ∷ []
@@ -167,7 +167,7 @@ steep = sheetOf 0 (replicate 9 0 ++ replicate 8 11_111) (replicate 5 1) 10_000 1
 
 -- a look-up's rates, or the ground's number
 rates : Book → ℕ → List ℤ
-rates b y = numbers (lookUp b y)
+rates b y = numbers (lookUp b plain y)
   where
     numbers : Outcome Finding → List ℤ
     numbers (refused g) = pos (numberOf g) ∷ []
@@ -190,13 +190,13 @@ unfolding steep-opens
 steep-rates = refl
 
 -- and its page has the pairs of these years all the same
-steep-paged : take 10 (drop 1_495 (page (run 2_399 (postOf steep ∷ [])) (replicate 1_505 7) .buffer)) ≡ 0x59 ∷ 150 ∷ 0 ∷ 0 ∷ 0 ∷ 0 ∷ 0 ∷ 0 ∷ 0 ∷ 10 ∷ []
+steep-paged : take 10 (drop 1_495 (page (run 2_399 (postOf steep ∷ [])) plain (replicate 1_505 7) .buffer)) ≡ 0x59 ∷ 150 ∷ 0 ∷ 0 ∷ 0 ∷ 0 ∷ 0 ∷ 0 ∷ 0 ∷ 10 ∷ []
 unfolding steep-opens
 steep-paged = refl
 
 -- ---- demand 3 refuses a wrong answer: February's factors with March's month and age
 
-march-band : bandOf march 20 .low ≡ 553_675_753
+march-band : bandOf plain march 20 .low ≡ 553_675_753
 unfolding opens
 march-band = refl
 
@@ -210,20 +210,20 @@ abbrev low-of : Outcome Finding → ℕ
 low-of (refused g) = 0
 low-of (done f) = f .low
 
-march-rated : HighRateExists 20 (bandOf march 20 .low)
+march-rated : HighRateExists 20 (bandOf plain march 20 .low)
 unfolding opens
 march-rated = exists-by 20 553_675_753 refl
 
-february-under-march : (r : SignedPair) → LookTells 2_399 (count day) 20 (done (finding (pair 1_000_000_000 1_000_000_000) r 2 1)) → ⊥
+february-under-march : (r : SignedPair) → LookTells 2_399 (count day) plain 20 (done (finding (pair 1_000_000_000 1_000_000_000) r 2 1)) → ⊥
 february-under-march r tells =
-    let found = tells .finds march march-sheet young (omega arith) (omega arith) march-rated .found in
-    let low : _≡_ {A = ℕ} 1_000_000_000 (bandOf march 20 .low) = ap low-of found in
+    let found = tells .finds march (march-sheet, refl) young (omega arith) (omega arith) march-rated .found in
+    let low : _≡_ {A = ℕ} 1_000_000_000 (bandOf plain march 20 .low) = ap low-of found in
     omega (arith, low, march-band)
 
 -- a page that says written and leaves the buffer as lent
-blank-page : PageTells 2_399 (count day) (replicate 1_505 7) (record { buffer = replicate 1_505 7; answer = done tt }) → ⊥
+blank-page : PageTells 2_399 (count day) plain (replicate 1_505 7) (record { buffer = replicate 1_505 7; answer = done tt }) → ⊥
 blank-page tells =
-    let mark : _≡_ {A = ℕ} 7 0x48 = tells .writes march march-sheet young (omega arith) .read .mark in
+    let mark : _≡_ {A = ℕ} 7 0x48 = tells .writes march (march-sheet, refl) young (omega arith) .read .mark in
     omega (arith, mark)
 
 -- ---- and with an age limit of 3: a curve of month 7 shown in month 11, or 14 for it; 16 in month 10
@@ -231,7 +231,7 @@ blank-page tells =
 abbrev in-month : ℕ → Count
 in-month m = record { told = m; sheet = posted old }
 
-past-counted : count (turnTo 10 ∷ postOf old ∷ asks (lookAt 20) ∷ turnTo 11 ∷ []) ≡ in-month 11
+past-counted : count (turnTo 10 ∷ postOf old ∷ asks (lookAt plain 20) ∷ turnTo 11 ∷ []) ≡ in-month 11
 unfolding ages-open
 past-counted = refl
 
@@ -239,18 +239,18 @@ month-7 : monthOf old ≡ 7
 unfolding ages-open
 month-7 = refl
 
-old-rated : HighRateExists 20 (bandOf old 20 .low)
+old-rated : HighRateExists 20 (bandOf plain old 20 .low)
 unfolding ages-open
 old-rated = exists-by 20 1_000_000_000 refl
 
-old-curve-shown : (f : Finding) → LookTells 3 (in-month 11) 20 (done f) → ⊥
-old-curve-shown f tells = refusal-kept refl (tells .too-old old refl (omega (arith, month-7)) (omega arith) (omega arith))
+old-curve-shown : (f : Finding) → LookTells 3 (in-month 11) plain 20 (done f) → ⊥
+old-curve-shown f tells = refusal-kept refl (tells .too-old old (refl, refl) (omega (arith, month-7)) (omega arith) (omega arith))
 
-old-curve-missing : LookTells 3 (in-month 11) 20 (refused noCurve) → ⊥
-old-curve-missing tells = other-ground refl (tells .too-old old refl (omega (arith, month-7)) (omega arith) (omega arith)) (λ n. omega (arith, n))
+old-curve-missing : LookTells 3 (in-month 11) plain 20 (refused noCurve) → ⊥
+old-curve-missing tells = other-ground refl (tells .too-old old (refl, refl) (omega (arith, month-7)) (omega arith) (omega arith)) (λ n. omega (arith, n))
 
-closed-at-limit : LookTells 3 (in-month 10) 20 (refused ageAboveLimit) → ⊥
-closed-at-limit tells = refusal-kept (tells .finds old refl (omega (arith, month-7)) (omega arith) (omega arith) old-rated .found) refl
+closed-at-limit : LookTells 3 (in-month 10) plain 20 (refused ageAboveLimit) → ⊥
+closed-at-limit tells = refusal-kept (tells .finds old (refl, refl) (omega (arith, month-7)) (omega arith) (omega arith) old-rated .found) refl
 
 -- ---- and of the rates: a low rate that is not the largest; a year without a high rate shown all the same
 
@@ -259,21 +259,21 @@ low-rate-of (refused g) = pos 0
 low-rate-of (done f) = f .lowRate
 
 -- March's year 20 has 2.999% to 3.001%
-march-passes : AtMost 20 (bandOf march 20 .high) (pos 2_999)
+march-passes : AtMost 20 (bandOf plain march 20 .high) (pos 2_999)
 unfolding opens grown
 march-passes = leZ-yes tt
 
-low-rate-too-low : LookTells 2_399 (count day) 20 (done (finding (pair 553_675_753 553_675_756) (signedPair (pos 2_998) (pos 3_001)) 2 1)) → ⊥
+low-rate-too-low : LookTells 2_399 (count day) plain 20 (done (finding (pair 553_675_753 553_675_756) (signedPair (pos 2_998) (pos 3_001)) 2 1)) → ⊥
 unfolding low-rate-of
 low-rate-too-low tells =
-    let finds = tells .finds march march-sheet young (omega arith) (omega arith) march-rated in
+    let finds = tells .finds march (march-sheet, refl) young (omega arith) (omega arith) march-rated in
     let shown : pos 2_998 ≡ finds .rates .low = ap low-rate-of (finds .found) in
     let largest = finds .band-rates .low-rate .none-above (pos 2_999) (record { from = leZ-yes tt; to = leZ-yes tt }) march-passes in
     rw (← shown) at largest .le
 
-steep-unrated : HighRateExists 150 (bandOf steep 150 .low) → ⊥
+steep-unrated : HighRateExists 150 (bandOf plain steep 150 .low) → ⊥
 unfolding steep-opens
 steep-unrated exists = let z : _≡_ {A = ℕ} 0 1 = cc (greatest-reaches 150 0 exists) in omega arith
 
-unrated-shown : (f : Finding) → LookTells 2_399 (record { told = 0; sheet = posted steep }) 150 (done f) → ⊥
-unrated-shown f tells = refusal-kept refl (tells .no-high-rate steep refl (omega arith) (omega arith) (omega arith) steep-unrated)
+unrated-shown : (f : Finding) → LookTells 2_399 (record { told = 0; sheet = posted steep }) plain 150 (done f) → ⊥
+unrated-shown f tells = refusal-kept refl (tells .no-high-rate steep (refl, refl) (omega arith) (omega arith) (omega arith) steep-unrated)

@@ -13,16 +13,17 @@ use Rattle.method.specs.Grounds.{Ground, wrongLength, wrongRecord, outOfRange, 
 use Rattle.method.specs.Grounds.{monthBeforeTold, yearOutside, noCurve, bufferTooShort, ageAboveLimit, noHighRate}
 use Rattle.method.specs.Grounds.{Outcome, refused, done, _>>=_, demand}
 use Rattle.method.specs.Sheet.{Numbers, readSheet, sheetNumbers, layoutOf, sizeOf, slotsOf, firstFailure, rightRecord, inRange, total}
-use Rattle.method.specs.Curve.{Curve, curveOf}
+use Rattle.method.specs.Units.{Which}
+use Rattle.method.specs.Curve.{Curve, Held, none, some, Curves, curvesOf}
 use Rattle.method.specs.Enclosure.{lowOf}
 use Rattle.method.proofs.Outcome.{split}
-use Rattle.method.proofs.Layouts.{either-length}
+use Rattle.method.proofs.Layouts.{any-length}
 use Rattle.zero_rates.specs.Rates.{greatestMultiplier, compound, reaches, ratesOf, zeroRates}
 use Rattle.zero_rates.proofs.Compounding.{grown-is}
 use Rattle.ledger.specs.Answers.{finding}
 use Rattle.ledger.specs.Page.{pageBytes}
-use Rattle.ledger.specs.Book.{Standing, none, some, Book, Booked, booked, notBefore, postOutcome, withCurve, post, turnOutcome, withTold, turn}
-use Rattle.ledger.specs.Book.{openCurve, age, bandAt, lookIn, lookUp, pageOutcome, pagedBy, page}
+use Rattle.ledger.specs.Book.{Standing, Book, Booked, booked, notBefore, postOutcome, withCurves, post, turnOutcome, withTold, turn}
+use Rattle.ledger.specs.Book.{named, openCurve, age, bandAt, lookIn, lookUp, pageOutcome, pagedBy, page}
 use Rattle.ledger.specs.Demands.{Applies, when, first, standsAfter, vacant, tooOld, beyondReach, foundIn, monthIn, Demand1}
 use Rattle.ledger.specs.Demands.{postGrounds, turnGrounds, lookGrounds, pageGrounds}
 use Rattle.ledger.proofs.Asked.{refusal-kept, page-refused}
@@ -35,7 +36,7 @@ demand-first false g x rest o e = refl
 
 -- the four grounds of reading, then what comes after
 read-first :
-    (f : Numbers → Outcome Curve) (n : Numbers) (t1 t2 t3 t4 : Bool) (g1 g2 g3 g4 : Ground) (rest : List Applies) (o : Outcome Curve) →
+    (f : Numbers → Outcome Curves) (n : Numbers) (t1 t2 t3 t4 : Bool) (g1 g2 g3 g4 : Ground) (rest : List Applies) (o : Outcome Curves) →
     f n ≡ first rest o →
     ((demand t1 g1 >>= (λ _. demand t2 g2 >>= (λ _. demand t3 g3 >>= (λ _. demand t4 g4 >>= (λ _. done n))))) >>= f)
     ≡ first (when (not t1) g1 ∷ when (not t2) g2 ∷ when (not t3) g3 ∷ when (not t4) g4 ∷ rest) o
@@ -55,19 +56,19 @@ not-at-most t m = split (leb m t) (λ q. rw (q, le-ltb t m (leb-true m t q))) (�
 
 before-standing : (k : Standing) (m : ℕ) → standsAfter k m ≡ not (notBefore k m)
 before-standing none m = refl
-before-standing (some c) m = not-at-most m (c .month)
+before-standing (some c) m = not-at-most m (c .plain .month)
 
 no-year : (y : ℕ) → eqb y 0 ≡ not (leb 1 y)
 no-year zero = refl
 no-year (suc y) = eqb·suc-zero y ∙ ap not (sym (le-leb 1 (suc y) (omega arith)))
 
-outcome-first : (b : Book) (s : List ℕ) → postOutcome b s ≡ first (postGrounds b s) (curveOf (sheetNumbers s))
+outcome-first : (b : Book) (s : List ℕ) → postOutcome b s ≡ first (postGrounds b s) (curvesOf (sheetNumbers s))
 unfolding postOutcome readSheet postGrounds
 outcome-first b s =
     let n = sheetNumbers s in
     let standing = when (not (notBefore (b .standing) (n .month))) beforeStandingCurve in
     let told = when (not (leb (n .month) (b .told))) afterToldMonth in
-    let o = curveOf n in
+    let o = curvesOf n in
     let wrong = firstFailure (rightRecord s) 1 (slotsOf (layoutOf s)) in
     let outside = firstFailure (inRange s) 1 (slotsOf (layoutOf s)) in
     let two : Applies = when (not (eqb wrong 0)) (wrongRecord wrong) in
@@ -81,14 +82,14 @@ outcome-first b s =
     (demand-first (leb (n .month) (b .told)) afterToldMonth _ (standing ∷ []) o
     (demand-first (notBefore (b .standing) (n .month)) beforeStandingCurve o [] o refl)) in
     rw (none-traded (total (n .volumes)), not-at-most (b .told) (n .month), before-standing (b .standing) (n .month))
-    (worked ∙ ap (λ (right : Bool). first (when (not right) wrongLength ∷ later) o) (either-length s))
+    (worked ∙ ap (λ (right : Bool). first (when (not right) wrongLength ∷ later) o) (any-length s))
 
 booked-refused : {A : Type 0} (b : Book) (changed : A → Book) (month : A → ℕ) (o : Outcome A) (g : Ground) →
     booked b changed month o .answer ≡ refused g → booked b changed month o .book ≡ b
 booked-refused b changed month (refused x) g e = refl
 booked-refused b changed month (done a) g e = absurd (refusal-kept {a = done (month a)} refl e)
 
-pub posted-answer : (b : Book) (o : Outcome Curve) → booked b (withCurve b) (λ c. c .month) o .answer ≡ monthIn o
+pub posted-answer : (b : Book) (o : Outcome Curves) → booked b (withCurves b) (λ c. c .plain .month) o .answer ≡ monthIn o
 posted-answer b (refused g) = refl
 posted-answer b (done c) = refl
 
@@ -121,7 +122,7 @@ rated-first c told y = rw (not-reached c y) (by-test (reaches y (lowOf c y) grea
     by-test false = refl
 
 -- 14 and 16 before them
-open-first : (k : Standing) (told limit y : ℕ) →
+open-first : (k : Held Curve) (told limit y : ℕ) →
     (openCurve k told limit >>= (λ c. zeroRates y (bandAt c y) >>= (λ r. done (finding (bandAt c y) r (c .month) (age told c)))))
     ≡ first (when (vacant k) noCurve ∷ when (tooOld k told limit) ageAboveLimit ∷ when (beyondReach k y) noHighRate ∷ []) (done (foundIn told k y))
 open-first none told limit y = refl
@@ -134,13 +135,13 @@ open-first (some c) told limit y = rw (not-at-most limit (age told c)) (by-test 
     by-test true = rated-first c told y
     by-test false = refl
 
-look-first-is : (b : Book) (y : ℕ) → lookUp b y ≡ first (lookGrounds b y) (done (foundIn (b .told) (b .standing) y))
+look-first-is : (b : Book) (w : Which) (y : ℕ) → lookUp b w y ≡ first (lookGrounds b w y) (done (foundIn (b .told) (named w (b .standing)) y))
 unfolding lookIn lookGrounds
-look-first-is b y =
-    let seventeen = when (beyondReach (b .standing) y) noHighRate in
-    let later = when (vacant (b .standing)) noCurve ∷ when (tooOld (b .standing) (b .told) (b .ageLimit)) ageAboveLimit ∷ seventeen ∷ [] in
-    let found = done (foundIn (b .told) (b .standing) y) in
-    rw (no-year y, not-at-most 150 y) (go _ (leb 1 y) (leb y 150) later found (open-first (b .standing) (b .told) (b .ageLimit) y))
+look-first-is b w y =
+    let k = named w (b .standing) in
+    let later = when (vacant k) noCurve ∷ when (tooOld k (b .told) (b .ageLimit)) ageAboveLimit ∷ when (beyondReach k y) noHighRate ∷ [] in
+    let found = done (foundIn (b .told) k y) in
+    rw (no-year y, not-at-most 150 y) (go _ (leb 1 y) (leb y 150) later found (open-first k (b .told) (b .ageLimit) y))
   where
     go : {A : Type 0} (o : Outcome A) (p q : Bool) (later : List Applies) (r : Outcome A) → o ≡ first later r →
         (demand (p && q) yearOutside >>= (λ _. o)) ≡ first (when (not p) yearOutside ∷ when (not q) yearOutside ∷ later) r
@@ -151,9 +152,9 @@ look-first-is b y =
 abbrev over : Book → List ℕ → Curve → List ℕ
 over b l c = pageBytes (c .month) (age (b .told) c) (c .lows) (c .highs) ++ drop 1_505 l
 
-page-first-is : (b : Book) (l : List ℕ) → page b l .answer ≡ first (pageGrounds b l) (done tt)
+page-first-is : (b : Book) (w : Which) (l : List ℕ) → page b w l .answer ≡ first (pageGrounds b w l) (done tt)
 unfolding pageOutcome pageGrounds
-page-first-is b l = rw (not-at-most (length l) 1_505) (go (b .standing) (leb 1_505 (length l)))
+page-first-is b w l = rw (not-at-most (length l) 1_505) (go (named w (b .standing)) (leb 1_505 (length l)))
   where
     by-tests : (c : Curve) (young long : Bool) →
         pagedBy l ((demand young ageAboveLimit >>= (λ _. done c)) >>= (λ c. demand long bufferTooShort >>= (λ _. done (over b l c)))) .answer
@@ -162,7 +163,7 @@ page-first-is b l = rw (not-at-most (length l) 1_505) (go (b .standing) (leb 1_5
     by-tests c true false = refl
     by-tests c false long = refl
 
-    go : (k : Standing) (long : Bool) →
+    go : (k : Held Curve) (long : Bool) →
         pagedBy l (openCurve k (b .told) (b .ageLimit) >>= (λ c. demand long bufferTooShort >>= (λ _. done (over b l c)))) .answer
         ≡ first (when (vacant k) noCurve ∷ when (tooOld k (b .told) (b .ageLimit)) ageAboveLimit ∷ when (not long) bufferTooShort ∷ []) (done tt)
     go none long = refl
@@ -186,7 +187,7 @@ unfolding post turn
 demand-1 b =
     record {
       post-first = λ s. posted-answer b (postOutcome b s) ∙ ap monthIn (outcome-first b s);
-      post-refused = λ s g e. booked-refused b (withCurve b) (λ c. c .month) (postOutcome b s) g e;
+      post-refused = λ s g e. booked-refused b (withCurves b) (λ c. c .plain .month) (postOutcome b s) g e;
       turn-first = λ m. turned-answer b (turnOutcome b m) ∙ turn-outcome-first b m;
       turn-refused = λ m g e. booked-refused b (withTold b) (λ m. m) (turnOutcome b m) g e;
       turn-told = turned-told b;

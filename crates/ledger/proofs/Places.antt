@@ -6,13 +6,15 @@ use lib.Dec.{leb}
 use lib.ListN.{length}
 use Rattle.method.specs.Grounds.{Outcome, refused, done}
 use Rattle.method.specs.Sheet.{readSheet}
-use Rattle.method.proofs.Places.{place, bind-place, demand-place, read-place, curve-place}
+use Rattle.method.specs.Units.{Which}
+use Rattle.method.specs.Curve.{Curve, Held, none, some}
+use Rattle.method.proofs.Places.{place, bind-place, demand-place, read-place, curves-place}
 use Rattle.method.specs.Enclosure.{lowOf}
 use Rattle.zero_rates.specs.Rates.{greatestMultiplier, reaches, zeroRates}
 use Rattle.ledger.specs.Answers.{answerPlace}
 use Rattle.ledger.specs.Page.{pageLength}
-use Rattle.ledger.specs.Book.{Standing, none, some, Book, booked, notBefore, postOutcome, post, lastMonth, turnOutcome, turn}
-use Rattle.ledger.specs.Book.{young, openCurve, yearInside, bandAt, lookIn, lookUp, pageOutcome, pagedBy, page}
+use Rattle.ledger.specs.Book.{Book, booked, notBefore, postOutcome, post, lastMonth, turnOutcome, turn}
+use Rattle.ledger.specs.Book.{named, young, openCurve, yearInside, bandAt, lookIn, lookUp, pageOutcome, pagedBy, page}
 use Rattle.ledger.specs.Calls.{Call, postOf, turnTo, asks, lookAt, pageInto, answerOf}
 
 -- a refusal is answered as it is, and an accepted call at place 0
@@ -33,7 +35,7 @@ post-place b s =
     booked-place b _ _ (postOutcome b s)
     (bind-place (readSheet s) _ (omega (arith, read-place s))
     λ n e. demand-place (leb (n .month) (b .told)) _ _ (omega arith)
-    (demand-place (notBefore (b .standing) (n .month)) _ _ (omega arith) (curve-place n)))
+    (demand-place (notBefore (b .standing) (n .month)) _ _ (omega arith) (curves-place n)))
 
 -- ---- the other calls: 11 to 17 have place 0
 
@@ -43,27 +45,29 @@ turn-place b m =
     booked-place b _ _ (turnOutcome b m)
     (demand-place (leb m lastMonth) _ _ (omega arith) (demand-place (leb (b .told) m) _ _ (omega arith) (omega arith)))
 
-open-place : (s : Standing) (told limit : ℕ) → place (openCurve s told limit) ≤ 0
+open-place : (s : Held Curve) (told limit : ℕ) → place (openCurve s told limit) ≤ 0
 open-place none told limit = omega arith
 open-place (some c) told limit = demand-place (young c told limit) _ _ (omega arith) (omega arith)
 
-look-place : (b : Book) (y : ℕ) → answerPlace (lookUp b y) ≤ 0
+look-place : (b : Book) (w : Which) (y : ℕ) → answerPlace (lookUp b w y) ≤ 0
 unfolding lookIn
-look-place b y =
+look-place b w y =
+    let k = named w (b .standing) in
     demand-place (yearInside y) _ _ (omega arith)
-    (bind-place (openCurve (b .standing) (b .told) (b .ageLimit)) _ (open-place (b .standing) (b .told) (b .ageLimit))
+    (bind-place (openCurve k (b .told) (b .ageLimit)) _ (open-place k (b .told) (b .ageLimit))
     λ c e. bind-place (zeroRates y (bandAt c y)) _ (demand-place (reaches y (lowOf c y) greatestMultiplier) _ _ (omega arith) (omega arith))
     λ r d. omega arith)
 
-page-place : (b : Book) (l : List ℕ) → answerPlace (page b l .answer) ≤ 0
+page-place : (b : Book) (w : Which) (l : List ℕ) → answerPlace (page b w l .answer) ≤ 0
 unfolding pageOutcome
-page-place b l =
-    paged-place l (pageOutcome (b .standing) (b .told) (b .ageLimit) l)
-    (bind-place (openCurve (b .standing) (b .told) (b .ageLimit)) _ (open-place (b .standing) (b .told) (b .ageLimit))
+page-place b w l =
+    let k = named w (b .standing) in
+    paged-place l (pageOutcome k (b .told) (b .ageLimit) l)
+    (bind-place (openCurve k (b .told) (b .ageLimit)) _ (open-place k (b .told) (b .ageLimit))
     λ c e. demand-place (leb pageLength (length l)) _ _ (omega arith) (omega arith))
 
 pub answer-place : (b : Book) (c : Call) → answerOf b c .place ≤ 150
 answer-place b (postOf s) = post-place b s
 answer-place b (turnTo m) = omega (arith, turn-place b m)
-answer-place b (asks (lookAt y)) = omega (arith, look-place b y)
-answer-place b (asks (pageInto l)) = omega (arith, page-place b l)
+answer-place b (asks (lookAt w y)) = omega (arith, look-place b w y)
+answer-place b (asks (pageInto w l)) = omega (arith, page-place b w l)

@@ -8,27 +8,27 @@ use borrow.Author.Tests.{leb-true, le-leb}
 use lib.Dec.{leb}
 use Rattle.method.specs.Grounds.{afterToldMonth, beforeStandingCurve, Outcome, refused, done}
 use Rattle.method.specs.Sheet.{readSheet}
-use Rattle.method.specs.Curve.{Curve}
+use Rattle.method.specs.Curve.{none, some, Curves}
 use Rattle.method.proofs.Outcome.{bind-done, demand-done}
-use Rattle.ledger.specs.Book.{Standing, none, some, Book, booked, notBefore, postOutcome, withCurve, post}
+use Rattle.ledger.specs.Book.{Standing, Book, booked, notBefore, postOutcome, withCurves, post}
 use Rattle.ledger.specs.Demands.{holding, Accepted, Demand2}
 use Rattle.ledger.proofs.Asked.{refusal-kept, page-of-book}
 
-not-before : (k : Standing) (m : ℕ) → ((c : Curve) → k ≡ some c → c .month ≤ m) → notBefore k m ≡ true
+not-before : (k : Standing) (m : ℕ) → ((c : Curves) → k ≡ some c → c .plain .month ≤ m) → notBefore k m ≡ true
 not-before none m h = refl
-not-before (some c) m h = le-leb (c .month) m (h c refl)
+not-before (some c) m h = le-leb (c .plain .month) m (h c refl)
 
-before-none : (k : Standing) (m : ℕ) → notBefore k m ≡ true → (c : Curve) → k ≡ some c → c .month ≤ m
+before-none : (k : Standing) (m : ℕ) → notBefore k m ≡ true → (c : Curves) → k ≡ some c → c .plain .month ≤ m
 before-none none m t c e = let z : _≡_ {A = ℕ} 0 1 = cc in absurd (omega arith)
-before-none (some d) m t c e = let same : d ≡ c = cc e in rw (← same) (leb-true (d .month) m t)
+before-none (some d) m t c e = let same : d ≡ c = cc e in rw (← same) (leb-true (d .plain .month) m t)
 
-accepts-it : (b : Book) (s : List ℕ) (c : Curve) → Accepted b s c → postOutcome b s ≡ done c
+accepts-it : (b : Book) (s : List ℕ) (c : Curves) → Accepted b s c → postOutcome b s ≡ done c
 unfolding postOutcome
 accepts-it b s c a =
     let n = a .numbers in
     rw (a .reads, le-leb (n .month) (b .told) (a .month-told), not-before (b .standing) (n .month) (a .in-order)) (a .worked)
 
-was-accepted : (b : Book) (s : List ℕ) (c : Curve) → postOutcome b s ≡ done c → Accepted b s c
+was-accepted : (b : Book) (s : List ℕ) (c : Curves) → postOutcome b s ≡ done c → Accepted b s c
 unfolding postOutcome
 was-accepted b s c e =
     let read = bind-done (readSheet s) _ e in
@@ -44,12 +44,12 @@ was-accepted b s c e =
     }
 
 accepted-only : (b : Book) (s : List ℕ) (m : ℕ) → post b s .answer ≡ done m →
-    (c : Curve) × Accepted b s c × (post b s .book ≡ holding b c) × (c .month ≡ m)
+    (c : Curves) × Accepted b s c × (post b s .book ≡ holding b c) × (c .plain .month ≡ m)
 unfolding post
 accepted-only b s m e = go (postOutcome b s) refl e
   where
-    go : (o : Outcome Curve) → postOutcome b s ≡ o → booked b (withCurve b) (λ c. c .month) o .answer ≡ done m →
-        (c : Curve) × Accepted b s c × (booked b (withCurve b) (λ c. c .month) (postOutcome b s) .book ≡ holding b c) × (c .month ≡ m)
+    go : (o : Outcome Curves) → postOutcome b s ≡ o → booked b (withCurves b) (λ c. c .plain .month) o .answer ≡ done m →
+        (c : Curves) × Accepted b s c × (booked b (withCurves b) (λ c. c .plain .month) (postOutcome b s) .book ≡ holding b c) × (c .plain .month ≡ m)
     go (refused g) p a = absurd (refusal-kept a refl)
     go (done c) p a = (c, was-accepted b s c p, rw p, cc a)
 
@@ -59,5 +59,5 @@ demand-2 b =
     record {
       accepts = λ s c a. rw (accepts-it b s c a);
       accepts-only = accepted-only b;
-      pages = λ c l e f w h. page-of-book b c l e f w h;
+      pages = page-of-book b;
     }

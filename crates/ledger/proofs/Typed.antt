@@ -1,21 +1,24 @@
--- A sheet of 109 or 112 bytes read by the offsets of its bytes has the numbers of its records.
-use mathlib.Core.Path.{_≡_, refl, ap, sym}
+-- A sheet whose length and kinds are right, read by the offsets of its bytes, has the numbers of its records.
+use mathlib.Core.Path.{_≡_, refl, ap, sym, _∙_}
 use mathlib.Core.Bool.{true, false, cond}
 use mathlib.Core.List.{List, [], _∷_, _++_, map, append-assoc}
-use mathlib.Core.Logic.{_⊎_, inl, inr}
 use Prim.Native.Nat.{ℕ, suc, _+_, _*_, _≤_, _<_}
 use native.Mathlib.Numerals.{add-one}
 use native.Mathlib.Omega.{arith}
-use borrow.Author.Tests.{le-leb, lt-leb, ltb-true, ltb-false}
-use lib.Dec.{ltb, leb}
+use borrow.Author.Tests.{ne-eqb, eqb-true, le-leb, lt-leb, ltb-true, ltb-false}
+use lib.Dec.{eqb, ltb, leb}
 use lib.IntN.{ℤ, pos, _-ℤ_, +ℤ-idr}
-use lib.ListN.{length, take, drop}
+use lib.ListN.{length, take, drop, getD}
 use lib.Seq.{drop-cons}
 use Rattle.method.specs.Bytes.{bigEndian}
-use Rattle.method.specs.Sheet.{Kind, rate, volume, ultimate, limit, phaseIn, bodyLength, maturities, volumeMaturities, Entry, entry, firstEntries}
-use Rattle.method.specs.Sheet.{Layout, layoutOf, entriesOf, sizeOf, slot, slotsFrom, slotsOf, twosComplement16, numberOfRecord, sheetNumbers}
-use Rattle.method.proofs.Outcome.{split}
-use Rattle.method.proofs.Layouts.{two-lengths}
+use Rattle.method.specs.Sheet.{Kind, rate, volume, ultimate, limit, phaseIn, adjustment, kindByte, bodyLength, maturities, volumeMaturities}
+use Rattle.method.specs.Sheet.{Entry, entry, firstEntries, optional}
+use Rattle.method.specs.Sheet.{Layout, layoutOf, entriesOf, sizeOf, Slot, slot, slotAt, slotsFrom, slotsOf, twosComplement16, numberOfRecord}
+use Rattle.method.specs.Sheet.{rightRecord, firstFailure, numbersOf, sheetNumbers}
+use Rattle.method.proofs.Outcome.{split, both-true}
+use Rattle.method.proofs.Reading.{firstWrong}
+use Rattle.method.proofs.Slots.{slots-phased, slots-adjusts, phase-in-slot, adjustment-slot, none-fails}
+use Rattle.method.proofs.Layouts.{layout, size-is, named, by-layout}
 use Rattle.ledger.specs.Count.{byte2, byte4, monthOf, limitOf, rateAt, offsets, typed}
 
 -- from 32,768 on, 65,536 less
@@ -80,11 +83,14 @@ module _ (s : List ℕ) where
       let end : a + 1 + bodyLength k + (1 + bodyLength k) * length ms ≡ a + (1 + bodyLength k) * suc (length ms) = omega arith in
       rw (one m a (omega arith), records-of k f one ms es (a + 1 + bodyLength k) (omega arith), next, end)
 
+  adjustment-number : (a : ℕ) → a + 3 ≤ length s → numberOfRecord s (slot adjustment 0 a) ≡ rateAt s (a + 1)
+  adjustment-number a h = rw (two-at (a + 1) (omega arith)) (twos-is (byte2 s (a + 1)))
+
   -- ---- the sheet
 
-  -- the record after the first 25, where it stands
+  -- the records after the first 25, where they stand
   abbrev last : Layout → List Entry
-  last l = cond (l .phased) (entry phaseIn 0 ∷ []) []
+  last l = optional (l .phased) phaseIn ++ optional (l .adjusts) adjustment
 
   all-numbers : (l : Layout) → 109 ≤ length s →
       map (numberOfRecord s) (slotsOf l) ≡
@@ -100,10 +106,49 @@ module _ (s : List ℕ) where
       let apart = append-assoc (map (entry rate) maturities) (map (entry volume) volumeMaturities) tail in
       rw (two-at 1 (omega arith), behind, apart, rates, rate-count, volumes, volume-count, two-at 102 (omega arith), four-at 105 (omega arith))
 
-  pub typed-is : length s ≡ sizeOf (layoutOf s) → sheetNumbers s ≡ typed s
+  -- the kind byte that a slot asks for stands where it starts
+  kind-at : (l : Layout) (i : ℕ) (t : Slot) → firstFailure (rightRecord s) 1 (slotsOf l) ≡ 0 → i < length (slotsOf l) → slotAt l i ≡ t →
+      eqb (getD s (t .start) 0) (kindByte (t .kind)) ≡ true
+  kind-at l i t right h e =
+      let here : rightRecord s t ≡ true = rw (← e) (none-fails (rightRecord s) 0 (slotsOf l) right i h) in
+      both-true (eqb (getD s (t .start) 0) (kindByte (t .kind))) _ here .0
+
+  -- hex 07 is not hex 06
+  other-kind : (b : ℕ) → eqb b 0x07 ≡ true → eqb b 0x06 ≡ false
+  other-kind b e = ne-eqb b 0x06 (λ h. omega (arith, eqb-true b 0x07 e, h))
+
+  module _ (l : Layout) (right : firstFailure (rightRecord s) 1 (slotsOf l) ≡ 0) where
+    phase-in-named : l .phased ≡ true → eqb (getD s 109 0) 0x06 ≡ true
+    phase-in-named e = kind-at l 25 _ right (omega (arith, slots-phased l e)) (phase-in-slot l e)
+
+    adjustment-named : l .adjusts ≡ true → eqb (getD s (109 + cond (l .phased) 3 0) 0) 0x07 ≡ true
+    adjustment-named e = kind-at l (25 + cond (l .phased) 1 0) _ right (omega (arith, slots-adjusts l e)) (adjustment-slot l e)
+
+  abbrev Read : Layout → Type 0
+  Read l = length s ≡ sizeOf l → firstFailure (rightRecord s) 1 (slotsOf l) ≡ 0 → numbersOf l (map (numberOfRecord s) (slotsOf l)) ≡ typed s
+
+  pub typed-is : length s ≡ sizeOf (layoutOf s) → firstWrong s ≡ 0 → sheetNumbers s ≡ typed s
   unfolding typed offsets slotsFrom
-  typed-is long = go (two-lengths s long)
+  typed-is = by-layout s Read (λ h. neither) (λ h k n. phase-in-last n) (λ h k n. adjustment-alone n) (λ h. both)
     where
-      go : ((length s ≡ 109) × (layoutOf s .phased ≡ false)) ⊎ ((length s ≡ 112) × (layoutOf s .phased ≡ true)) → sheetNumbers s ≡ typed s
-      go (inl (e, plain)) = rw (all-numbers (layoutOf s) (omega arith), plain, e)
-      go (inr (e, phased)) = rw (all-numbers (layoutOf s) (omega arith), phased, two-at 110 (omega arith), e)
+      neither : Read (layout false false)
+      neither size right =
+          let e : length s ≡ 109 = size ∙ size-is (layout false false) in
+          rw (all-numbers (layout false false) (omega arith), e)
+
+      phase-in-last : named s ≡ false → Read (layout true false)
+      phase-in-last n size right =
+          let e : length s ≡ 112 = size ∙ size-is (layout true false) in
+          rw (all-numbers (layout true false) (omega arith), two-at 110 (omega arith), e, phase-in-named (layout true false) right refl, n)
+
+      adjustment-alone : named s ≡ true → Read (layout false true)
+      adjustment-alone n size right =
+          let e : length s ≡ 112 = size ∙ size-is (layout false true) in
+          rw (all-numbers (layout false true) (omega arith), adjustment-number 109 (omega arith), e, n, other-kind (getD s 109 0) n)
+
+      both : Read (layout true true)
+      both size right =
+          let e : length s ≡ 115 = size ∙ size-is (layout true true) in
+          let first = phase-in-named (layout true true) right refl in
+          let second = adjustment-named (layout true true) right refl in
+          rw (all-numbers (layout true true) (omega arith), two-at 110 (omega arith), adjustment-number 112 (omega arith), e, first, second)

@@ -4,20 +4,19 @@ use mathlib.Core.List.{List, _++_}
 use Prim.Native.Nat.{ℕ, _-_, min}
 use lib.Dec.{leb}
 use lib.ListN.{length, drop}
-use Rattle.method.specs.Units.{Pair, pair}
+use Rattle.method.specs.Units.{Which, Pair, pair}
 use Rattle.method.specs.Grounds.{afterToldMonth, beforeStandingCurve, monthAboveLast, monthBeforeTold, yearOutside, noCurve, bufferTooShort, ageAboveLimit}
 use Rattle.method.specs.Grounds.{Outcome, refused, done, _>>=_, demand}
 use Rattle.method.specs.Sheet.{readSheet}
-use Rattle.method.specs.Curve.{Curve, curveOf}
+use Rattle.method.specs.Curve.{Curve, Held, none, some, Curves, curveNamed, curvesOf}
 use Rattle.method.specs.Enclosure.{lowOf, highOf}
 use Rattle.zero_rates.specs.Rates.{zeroRates}
 use Rattle.ledger.specs.Answers.{Finding, finding}
 use Rattle.ledger.specs.Page.{pageBytes, pageLength}
 
--- the curve of the last accepted sheet, if there is one
-pub data Standing : Type 0 where
-  none : Standing
-  some : Curve → Standing
+-- the curves of the last accepted sheet, if there is one
+abbrev pub Standing : Type 0
+Standing = Held Curves
 
 pub record Book : Type 0 where
   pub ageLimit : ℕ
@@ -45,24 +44,24 @@ booked b changed month (done a) = record { book = changed a; answer = done (mont
 
 -- ---- post: 1 to 4, then 5 and 6, then 7 to 10
 
--- not before the standing curve's month; while none stands, any month passes
+-- not before the standing curves' month; while none stands, any month passes
 abbrev pub notBefore : Standing → ℕ → Bool
 notBefore none month = true
-notBefore (some c) month = leb (c .month) month
+notBefore (some cs) month = leb (cs .plain .month) month
 
-unfoldable pub postOutcome : Book → List ℕ → Outcome Curve
+unfoldable pub postOutcome : Book → List ℕ → Outcome Curves
 postOutcome b s = do
   n ← readSheet s
   _ ← demand (leb (n .month) (b .told)) afterToldMonth
   _ ← demand (notBefore (b .standing) (n .month)) beforeStandingCurve
-  curveOf n
+  curvesOf n
 
--- the curve and its month are replaced; the answer is the sheet's month
-abbrev pub withCurve : Book → Curve → Book
-withCurve b c = record { ageLimit = b .ageLimit; told = b .told; standing = some c }
+-- the curves and their month are replaced; the answer is the sheet's month
+abbrev pub withCurves : Book → Curves → Book
+withCurves b cs = record { ageLimit = b .ageLimit; told = b .told; standing = some cs }
 
 unfoldable pub post : Book → List ℕ → Booked
-post b s = booked b (withCurve b) (λ c. c .month) (postOutcome b s)
+post b s = booked b (withCurves b) (λ cs. cs .plain .month) (postOutcome b s)
 
 -- ---- turn: 11, 12
 
@@ -82,6 +81,12 @@ withTold b m = record { ageLimit = b .ageLimit; told = m; standing = b .standing
 unfoldable pub turn : Book → ℕ → Booked
 turn b m = booked b (withTold b) (λ m. m) (turnOutcome b m)
 
+-- ---- the curve that a question names: none where no sheet stands, and no adjusted one where the sheet had none
+
+abbrev pub named : Which → Standing → Held Curve
+named w none = none
+named w (some cs) = curveNamed w cs
+
 -- ---- what may be shown of a curve, or none, at a told month and with an age limit: 14, 16
 
 -- told month less sheet month
@@ -93,7 +98,7 @@ abbrev pub young : Curve → ℕ → ℕ → Bool
 young c told limit = leb (age told c) limit
 
 -- a curve that is too old is closed, and stands all the same
-abbrev pub openCurve : Standing → ℕ → ℕ → Outcome Curve
+abbrev pub openCurve : Held Curve → ℕ → ℕ → Outcome Curve
 openCurve none told limit = refused noCurve
 openCurve (some c) told limit = do
   _ ← demand (young c told limit) ageAboveLimit
@@ -107,22 +112,22 @@ yearInside y = leb 1 y && leb y 150
 abbrev pub bandAt : Curve → ℕ → Pair
 bandAt c y = pair (lowOf c y) (highOf c y)
 
-unfoldable pub lookIn : Standing → ℕ → ℕ → ℕ → Outcome Finding
-lookIn s told limit y = do
+unfoldable pub lookIn : Held Curve → ℕ → ℕ → ℕ → Outcome Finding
+lookIn k told limit y = do
   _ ← demand (yearInside y) yearOutside
-  c ← openCurve s told limit
+  c ← openCurve k told limit
   rates ← zeroRates y (bandAt c y)
   done (finding (bandAt c y) rates (c .month) (age told c))
 
-abbrev pub lookUp : Book → ℕ → Outcome Finding
-lookUp b y = lookIn (b .standing) (b .told) (b .ageLimit) y
+abbrev pub lookUp : Book → Which → ℕ → Outcome Finding
+lookUp b w y = lookIn (named w (b .standing)) (b .told) (b .ageLimit) y
 
 -- ---- page: 14, 16, 15
 
 -- bytes past the page are kept
-unfoldable pub pageOutcome : Standing → ℕ → ℕ → List ℕ → Outcome (List ℕ)
-pageOutcome s told limit l = do
-  c ← openCurve s told limit
+unfoldable pub pageOutcome : Held Curve → ℕ → ℕ → List ℕ → Outcome (List ℕ)
+pageOutcome k told limit l = do
+  c ← openCurve k told limit
   _ ← demand (leb pageLength (length l)) bufferTooShort
   done (pageBytes (c .month) (age told c) (c .lows) (c .highs) ++ drop pageLength l)
 
@@ -135,8 +140,8 @@ abbrev pub pagedBy : List ℕ → Outcome (List ℕ) → Paged
 pagedBy l (refused g) = record { buffer = l; answer = refused g }
 pagedBy l (done out) = record { buffer = out; answer = done tt }
 
-abbrev pub pageIn : Standing → ℕ → ℕ → List ℕ → Paged
-pageIn s told limit l = pagedBy l (pageOutcome s told limit l)
+abbrev pub pageIn : Held Curve → ℕ → ℕ → List ℕ → Paged
+pageIn k told limit l = pagedBy l (pageOutcome k told limit l)
 
-abbrev pub page : Book → List ℕ → Paged
-page b l = pageIn (b .standing) (b .told) (b .ageLimit) l
+abbrev pub page : Book → Which → List ℕ → Paged
+page b w l = pageIn (named w (b .standing)) (b .told) (b .ageLimit) l

@@ -1,14 +1,15 @@
 -- SPECIFICATION 8: every list of calls, and the run from a fresh book of any age limit.
 use mathlib.Core.List.{List, [], _∷_}
 use Prim.Native.Nat.{ℕ}
+use Rattle.method.specs.Units.{Which}
 use Rattle.method.specs.Grounds.{Outcome}
 use Rattle.ledger.specs.Answers.{Finding, answerNumber, answerPlace}
 use Rattle.ledger.specs.Book.{Book, Paged, fresh, post, turn, lookUp, page}
 
--- what leaves the book as it is: a look-up of any year, a page into any buffer
+-- what leaves the book as it is, and names its curve: a look-up of any year, a page into any buffer
 pub data Question : Type 0 where
-  lookAt : ℕ → Question
-  pageInto : List ℕ → Question
+  lookAt : Which → ℕ → Question
+  pageInto : Which → List ℕ → Question
 
 -- a post of any bytes, a turn to any month, or a question
 pub data Call : Type 0 where
@@ -33,12 +34,12 @@ run limit cs = runFrom (fresh limit) cs
 -- ---- what a question is answered
 
 abbrev pub AnswerTo : Question → Type 0
-AnswerTo (lookAt y) = Outcome Finding
-AnswerTo (pageInto l) = Paged
+AnswerTo (lookAt w y) = Outcome Finding
+AnswerTo (pageInto w l) = Paged
 
 abbrev pub answered : Book → (q : Question) → AnswerTo q
-answered b (lookAt y) = lookUp b y
-answered b (pageInto l) = page b l
+answered b (lookAt w y) = lookUp b w y
+answered b (pageInto w l) = page b w l
 
 -- ---- the number and the place that any call is answered
 
@@ -52,5 +53,5 @@ answerBy o = record { number = answerNumber o; place = answerPlace o }
 abbrev pub answerOf : Book → Call → Answer
 answerOf b (postOf s) = answerBy (post b s .answer)
 answerOf b (turnTo m) = answerBy (turn b m .answer)
-answerOf b (asks (lookAt y)) = answerBy (lookUp b y)
-answerOf b (asks (pageInto l)) = answerBy (page b l .answer)
+answerOf b (asks (lookAt w y)) = answerBy (lookUp b w y)
+answerOf b (asks (pageInto w l)) = answerBy (page b w l .answer)

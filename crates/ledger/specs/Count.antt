@@ -1,10 +1,11 @@
 -- SPECIFICATION 8: the count, from what the calls bring alone. Whatever it needs of a sheet it reads from the bytes in its own words.
 use mathlib.Core.Bool.{Bool, true, false, cond, _&&_}
 use mathlib.Core.List.{List, [], _∷_, map}
-use Prim.Native.Nat.{ℕ, zero, suc, _+_, _*_}
-use lib.Dec.{leb, eqb}
+use Prim.Native.Nat.{ℕ, zero, suc, _+_, _-_, _*_}
+use lib.Dec.{leb, ltb, eqb}
 use lib.IntN.{ℤ, pos, _-ℤ_}
 use lib.ListN.{length, getD}
+use Rattle.method.specs.Units.{Which, plain, adjusted}
 use Rattle.method.specs.Grounds.{Outcome, refused, done}
 use Rattle.method.specs.Sheet.{Numbers}
 use Rattle.method.specs.Curve.{answer}
@@ -24,7 +25,7 @@ monthOf s = byte2 s 1
 abbrev pub limitOf : List ℕ → ℕ
 limitOf s = byte4 s 105
 
--- from 32,768 on a rate is 65,536 less
+-- from 32,768 on a rate or an adjustment is 65,536 less
 abbrev pub rateAt : List ℕ → ℕ → ℤ
 rateAt s i = pos (byte2 s i) -ℤ pos (cond (leb 32_768 (byte2 s i)) 65_536 0)
 
@@ -33,9 +34,21 @@ unfoldable pub offsets : ℕ → ℕ → ℕ → List ℕ
 offsets i d zero = []
 offsets i d (suc n) = i ∷ offsets (i + d) d n
 
--- X of a sheet of 112 bytes, at byte 110; any other counts as 10,000
+-- X, behind a byte 109 of hex 06; any other sheet counts as 10,000
 abbrev pub phaseInOf : List ℕ → ℕ
-phaseInOf s = cond (eqb (length s) 112) (byte2 s 110) 10_000
+phaseInOf s = cond (ltb 109 (length s) && eqb (getD s 109 0) 0x06) (byte2 s 110) 10_000
+
+-- the last three bytes are an adjustment's, past the 109 that every sheet has: hex 07 and the number
+abbrev pub hasAdjustment : List ℕ → Bool
+hasAdjustment s = ltb 109 (length s) && eqb (getD s (length s - 3) 0) 0x07
+
+abbrev pub adjustmentOf : List ℕ → ℤ
+adjustmentOf s = cond (hasAdjustment s) (rateAt s (length s - 2)) (pos 0)
+
+-- every sheet carries a plain curve
+abbrev pub carries : Which → List ℕ → Bool
+carries plain s = true
+carries adjusted s = hasAdjustment s
 
 -- the month at byte 1; seventeen rates, four bytes apart from 5; five volumes, six apart from 73; the ultimate rate at 102
 unfoldable pub typed : List ℕ → Numbers
@@ -47,6 +60,8 @@ typed s =
       ultimate = byte2 s 102;
       limit = limitOf s;
       phaseIn = phaseInOf s;
+      adjusts = hasAdjustment s;
+      adjustment = adjustmentOf s;
     }
 
 -- ---- a told month, at first 0, and the last accepted sheet, at first none

@@ -8,17 +8,17 @@ use lib.Dec.{ltb, eqb}
 use lib.IntN.{pos, _*ℤ_}
 use lib.ListN.{length, getD}
 use lib.Signed.{ltZ}
-use Rattle.method.specs.Units.{pair, signedPair}
+use Rattle.method.specs.Units.{Which, pair, signedPair}
 use Rattle.method.specs.Grounds.{Ground, wrongLength, wrongRecord, outOfRange, noVolume, afterToldMonth, beforeStandingCurve}
 use Rattle.method.specs.Grounds.{monthAboveLast, monthBeforeTold, yearOutside, noCurve, bufferTooShort, ageAboveLimit, noHighRate}
 use Rattle.method.specs.Grounds.{Outcome, refused, done}
 use Rattle.method.specs.Sheet.{Numbers, readSheet, sheetNumbers, layoutOf, slotsOf, firstFailure, rightRecord, inRange, total}
-use Rattle.method.specs.Curve.{Curve, curveOf}
+use Rattle.method.specs.Curve.{Curve, Held, none, some, Curves, curvesOf}
 use Rattle.method.specs.Enclosure.{lowOf, highOf}
 use Rattle.zero_rates.specs.Rates.{ratesOf}
 use Rattle.zero_rates.specs.Meaning.{grown}
 use Rattle.ledger.specs.Answers.{Finding, finding}
-use Rattle.ledger.specs.Book.{Standing, none, some, Book, fresh, post, turn, lookUp, page}
+use Rattle.ledger.specs.Book.{Standing, Book, fresh, post, turn, named, lookUp, page}
 use Rattle.ledger.specs.Calls.{Question, Call, postOf, turnTo, asks, run, answered, answerOf}
 use Rattle.ledger.specs.Count.{LastSheet, unposted, posted, count}
 use Rattle.ledger.specs.Tells.{PageWritten, Tells}
@@ -30,13 +30,13 @@ Demand3 limit cs = (q : Question) → Tells limit (count cs) q (answered (run li
 
 -- ═══ A turn can close a curve that a look-up showed before, and the book still holds it
 
-pub record Closes (b : Book) (y m : ℕ) : Type 0 where
+pub record Closes (b : Book) (w : Which) (y m : ℕ) : Type 0 where
   pub accepted : turn b m .answer ≡ done m
   pub still-held : turn b m .book .standing ≡ b .standing
-  pub closed : lookUp (turn b m .book) y ≡ refused ageAboveLimit
+  pub closed : lookUp (turn b m .book) w y ≡ refused ageAboveLimit
 
 abbrev pub TurnCloses : Book → Type 0
-TurnCloses b = (y m : ℕ) (f : Finding) → lookUp b y ≡ done f → b .told ≤ m → m ≤ 2_399 → f .month + b .ageLimit < m → Closes b y m
+TurnCloses b = (w : Which) (y m : ℕ) (f : Finding) → lookUp b w y ≡ done f → b .told ≤ m → m ≤ 2_399 → f .month + b .ageLimit < m → Closes b w y m
 
 -- ═══ The age limit closes a curve and does nothing else. Whatever it is, the same curve stands and the same posts and turns are
 -- accepted as with the largest one; a question is answered as with that, or 16, which that one never answers
@@ -92,31 +92,31 @@ first [] o = o
 first (no ∷ gs) o = first gs o
 first (yes g ∷ gs) o = refused g
 
--- the sheet's month is before the standing curve's
+-- the sheet's month is before that of the standing curves
 abbrev pub standsAfter : Standing → ℕ → Bool
 standsAfter none m = false
-standsAfter (some c) m = ltb m (c .month)
+standsAfter (some cs) m = ltb m (cs .plain .month)
 
-abbrev pub vacant : Standing → Bool
+abbrev pub vacant : Held Curve → Bool
 vacant none = true
 vacant (some c) = false
 
 -- a curve stands, and more months than the limit have been told since its own
-abbrev pub tooOld : Standing → ℕ → ℕ → Bool
+abbrev pub tooOld : Held Curve → ℕ → ℕ → Bool
 tooOld none told limit = false
 tooOld (some c) told limit = ltb limit (told - c .month)
 
 -- a curve stands, and even at the greatest rate, 100,000, low × growth, rounded down, is below U × U
-abbrev pub beyondReach : Standing → ℕ → Bool
+abbrev pub beyondReach : Held Curve → ℕ → Bool
 beyondReach none y = false
 beyondReach (some c) y = ltZ (pos (lowOf c y) *ℤ grown false (pos 100_000) y) (pos 1_000_000_000_000_000_000)
 
--- 1 to 6, each by itself; 7 to 10 are the curve's own
+-- 1 to 6, each by itself; 7 to 10 are the curves' own
 unfoldable pub postGrounds : Book → List ℕ → List Applies
 postGrounds b s =
     let wrong = firstFailure (rightRecord s) 1 (slotsOf (layoutOf s)) in
     let outside = firstFailure (inRange s) 1 (slotsOf (layoutOf s)) in
-    when (not (eqb (length s) 109 || eqb (length s) 112)) wrongLength
+    when (not (eqb (length s) 109 || (eqb (length s) 112 || eqb (length s) 115))) wrongLength
     ∷ when (not (eqb wrong 0)) (wrongRecord wrong)
     ∷ when (not (eqb outside 0)) (outOfRange outside)
     ∷ when (eqb (total (sheetNumbers s .volumes)) 0) noVolume
@@ -127,55 +127,57 @@ postGrounds b s =
 unfoldable pub turnGrounds : Book → ℕ → List Applies
 turnGrounds b m = when (ltb 2_399 m) monthAboveLast ∷ when (ltb m (b .told)) monthBeforeTold ∷ []
 
-unfoldable pub lookGrounds : Book → ℕ → List Applies
-lookGrounds b y =
+unfoldable pub lookGrounds : Book → Which → ℕ → List Applies
+lookGrounds b w y =
+    let k = named w (b .standing) in
     when (eqb y 0) yearOutside
     ∷ when (ltb 150 y) yearOutside
-    ∷ when (vacant (b .standing)) noCurve
-    ∷ when (tooOld (b .standing) (b .told) (b .ageLimit)) ageAboveLimit
-    ∷ when (beyondReach (b .standing) y) noHighRate
+    ∷ when (vacant k) noCurve
+    ∷ when (tooOld k (b .told) (b .ageLimit)) ageAboveLimit
+    ∷ when (beyondReach k y) noHighRate
     ∷ []
 
-unfoldable pub pageGrounds : Book → List ℕ → List Applies
-pageGrounds b l =
-    when (vacant (b .standing)) noCurve
-    ∷ when (tooOld (b .standing) (b .told) (b .ageLimit)) ageAboveLimit
+unfoldable pub pageGrounds : Book → Which → List ℕ → List Applies
+pageGrounds b w l =
+    let k = named w (b .standing) in
+    when (vacant k) noCurve
+    ∷ when (tooOld k (b .told) (b .ageLimit)) ageAboveLimit
     ∷ when (ltb (length l) 1_505) bufferTooShort
     ∷ []
 
 -- what a look-up of a year has, where no ground applies
-abbrev pub foundIn : ℕ → Standing → ℕ → Finding
+abbrev pub foundIn : ℕ → Held Curve → ℕ → Finding
 foundIn told none y = finding (pair 0 0) (signedPair (pos 0) (pos 0)) 0 0
 foundIn told (some c) y = let band = pair (lowOf c y) (highOf c y) in finding band (ratesOf y band) (c .month) (told - c .month)
 
-abbrev pub monthIn : Outcome Curve → Outcome ℕ
+abbrev pub monthIn : Outcome Curves → Outcome ℕ
 monthIn (refused g) = refused g
-monthIn (done c) = done (c .month)
+monthIn (done cs) = done (cs .plain .month)
 
 pub record Demand1 (b : Book) : Type 0 where
-  pub post-first : (s : List ℕ) → post b s .answer ≡ monthIn (first (postGrounds b s) (curveOf (sheetNumbers s)))
+  pub post-first : (s : List ℕ) → post b s .answer ≡ monthIn (first (postGrounds b s) (curvesOf (sheetNumbers s)))
   pub post-refused : (s : List ℕ) (g : Ground) → post b s .answer ≡ refused g → post b s .book ≡ b
   pub turn-first : (m : ℕ) → turn b m .answer ≡ first (turnGrounds b m) (done m)
   pub turn-refused : (m : ℕ) (g : Ground) → turn b m .answer ≡ refused g → turn b m .book ≡ b
   pub turn-told : (m k : ℕ) → turn b m .answer ≡ done k → turn b m .book ≡ record { ageLimit = b .ageLimit; told = m; standing = b .standing }
-  pub look-first : (y : ℕ) → lookUp b y ≡ first (lookGrounds b y) (done (foundIn (b .told) (b .standing) y))
-  pub page-first : (l : List ℕ) → page b l .answer ≡ first (pageGrounds b l) (done tt)
-  pub page-refused : (l : List ℕ) (g : Ground) → page b l .answer ≡ refused g → page b l .buffer ≡ l
+  pub look-first : (w : Which) (y : ℕ) → lookUp b w y ≡ first (lookGrounds b w y) (done (foundIn (b .told) (named w (b .standing)) y))
+  pub page-first : (w : Which) (l : List ℕ) → page b w l .answer ≡ first (pageGrounds b w l) (done tt)
+  pub page-refused : (w : Which) (l : List ℕ) (g : Ground) → page b w l .answer ≡ refused g → page b w l .buffer ≡ l
 
 -- ═══ Demand 2: a post accepts precisely the sheets, and stores precisely the numbers, that the definitions give; a
 -- page carries exactly the book's numbers
 
--- the book with this curve in place of its own
-abbrev pub holding : Book → Curve → Book
-holding b c = record { ageLimit = b .ageLimit; told = b .told; standing = some c }
+-- the book with these curves in place of its own
+abbrev pub holding : Book → Curves → Book
+holding b cs = record { ageLimit = b .ageLimit; told = b .told; standing = some cs }
 
 -- a sheet that passes 1 to 4, whose month is told and not before the standing one, and whose numbers work
-pub record Accepted (b : Book) (s : List ℕ) (c : Curve) : Type 0 where
+pub record Accepted (b : Book) (s : List ℕ) (cs : Curves) : Type 0 where
   pub numbers : Numbers
   pub reads : readSheet s ≡ done numbers
   pub month-told : numbers .month ≤ b .told
-  pub in-order : (k : Curve) → b .standing ≡ some k → k .month ≤ numbers .month
-  pub worked : curveOf numbers ≡ done c
+  pub in-order : (ks : Curves) → b .standing ≡ some ks → ks .plain .month ≤ numbers .month
+  pub worked : curvesOf numbers ≡ done cs
 
 -- numbers that fit the page's bytes
 pub record CurveFits (told : ℕ) (c : Curve) : Type 0 where
@@ -187,13 +189,14 @@ pub record CurveFits (told : ℕ) (c : Curve) : Type 0 where
   pub high-fits : (k : ℕ) → k < 150 → getD (c .highs) k 0 < 4_294_967_296
 
 abbrev pub FitsPage : Book → Type 0
-FitsPage b = (c : Curve) → b .standing ≡ some c → CurveFits (b .told) c
+FitsPage b = (w : Which) (c : Curve) → named w (b .standing) ≡ some c → CurveFits (b .told) c
 
 pub record Demand2 (b : Book) : Type 0 where
-  -- whatever passes is accepted, and its curve is stored
-  pub accepts : (s : List ℕ) (c : Curve) → Accepted b s c → post b s ≡ record { book = holding b c; answer = done (c .month) }
+  -- whatever passes is accepted, and its curves are stored
+  pub accepts : (s : List ℕ) (cs : Curves) → Accepted b s cs → post b s ≡ record { book = holding b cs; answer = done (cs .plain .month) }
   -- and nothing else is
-  pub accepts-only : (s : List ℕ) (m : ℕ) → post b s .answer ≡ done m → (c : Curve) × Accepted b s c × (post b s .book ≡ holding b c) × (c .month ≡ m)
+  pub accepts-only :
+      (s : List ℕ) (m : ℕ) → post b s .answer ≡ done m → (cs : Curves) × Accepted b s cs × (post b s .book ≡ holding b cs) × (cs .plain .month ≡ m)
   pub pages :
-      (c : Curve) (l : List ℕ) → b .standing ≡ some c → CurveFits (b .told) c → b .told - c .month ≤ b .ageLimit → 1_505 ≤ length l →
-      PageWritten l (c .month) (b .told - c .month) (λ y. pair (lowOf c y) (highOf c y)) (page b l)
+      (w : Which) (c : Curve) (l : List ℕ) → named w (b .standing) ≡ some c → CurveFits (b .told) c → b .told - c .month ≤ b .ageLimit → 1_505 ≤ length l →
+      PageWritten l (c .month) (b .told - c .month) (λ y. pair (lowOf c y) (highOf c y)) (page b w l)

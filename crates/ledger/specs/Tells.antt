@@ -1,5 +1,6 @@
 -- SPECIFICATION 8, demand 3: what a count tells of an answer of a book that was made with an age limit. No book is named.
 use mathlib.Core.Path.{_≡_}
+use mathlib.Core.Bool.{Bool, true, not}
 use mathlib.Core.Logic.{_↔_}
 use mathlib.Core.List.{List}
 use Prim.Native.Nat.{ℕ, _+_, _*_, _-_, _≤_, _<_}
@@ -7,72 +8,87 @@ use lib.IntN.{pos}
 use lib.Signed.{_≤ℤ_}
 use lib.ListN.{length, getD, drop}
 use Rattle.fraction.specs.Rounding.{Encloses}
-use Rattle.method.specs.Units.{Pair, pair, SignedPair}
+use Rattle.method.specs.Units.{Which, Pair, pair, SignedPair}
 use Rattle.method.specs.Grounds.{Ground, yearOutside, noCurve, bufferTooShort, ageAboveLimit, noHighRate, Outcome, refused, done}
-use Rattle.method.specs.Curve.{Curve, answer}
+use Rattle.method.specs.Curve.{Curve, Held, none, some, Curves, curveNamed, answer}
 use Rattle.method.specs.Enclosure.{lowOf, highOf}
 use Rattle.method.specs.True.{trueCurve, trueFactor}
 use Rattle.zero_rates.specs.Meaning.{BandRates, HighRateExists, RateBetween}
 use Rattle.ledger.specs.Answers.{Finding}
 use Rattle.ledger.specs.Book.{Paged}
 use Rattle.ledger.specs.Calls.{Question, lookAt, pageInto, AnswerTo}
-use Rattle.ledger.specs.Count.{unposted, posted, Count, monthOf, limitOf, typed}
+use Rattle.ledger.specs.Count.{LastSheet, unposted, posted, Count, monthOf, limitOf, carries, typed}
+
+-- ---- the curve that is named
+
+-- no post was accepted, or its sheet has no adjustment and the adjusted curve is named
+abbrev pub missing : Which → LastSheet → Bool
+missing w unposted = true
+missing w (posted s) = not (carries w s)
+
+-- otherwise the last accepted sheet carries it
+abbrev pub Carries : Count → Which → List ℕ → Type 0
+Carries c w s = (c .sheet ≡ posted s) × (carries w s ≡ true)
 
 -- ---- a year's band
 
--- of a sheet that works
-abbrev pub bandIn : Outcome Curve → ℕ → Pair
-bandIn (refused g) y = pair 0 0
-bandIn (done c) y = pair (lowOf c y) (highOf c y)
+abbrev pub bandAmong : Held Curve → ℕ → Pair
+bandAmong none y = pair 0 0
+bandAmong (some c) y = pair (lowOf c y) (highOf c y)
 
-abbrev pub bandOf : List ℕ → ℕ → Pair
-bandOf s y = bandIn (answer s) y
+-- of a sheet that works
+abbrev pub bandIn : Which → Outcome Curves → ℕ → Pair
+bandIn w (refused g) y = pair 0 0
+bandIn w (done cs) y = bandAmong (curveNamed w cs) y
+
+abbrev pub bandOf : Which → List ℕ → ℕ → Pair
+bandOf w s y = bandIn w (answer s) y
 
 -- within the limit of the sheet that was typed, and around its true factor of every order
-pub record Band (s : List ℕ) (y : ℕ) (p : Pair) : Type 0 where
+pub record Band (w : Which) (s : List ℕ) (y : ℕ) (p : Pair) : Type 0 where
   pub ordered : p .low ≤ p .high
   pub within-limit : p .high ≤ p .low + limitOf s
-  pub true-years : (n : ℕ) → length (trueCurve n (typed s)) ≡ 150
-  pub holds-true-factor : (n : ℕ) → Encloses (pos (p .low)) (pos (p .high)) (trueFactor n (typed s) y)
+  pub true-years : (n : ℕ) → length (trueCurve w n (typed s)) ≡ 150
+  pub holds-true-factor : (n : ℕ) → Encloses (pos (p .low)) (pos (p .high)) (trueFactor w n (typed s) y)
 
 -- ---- a look-up
 
 -- of the sheet that the count holds; written out here, so that nothing is shared with the look-up
-abbrev pub findingOf : Count → List ℕ → ℕ → SignedPair → Finding
-findingOf c s y r =
+abbrev pub findingOf : Count → Which → List ℕ → ℕ → SignedPair → Finding
+findingOf c w s y r =
     record {
-      low = bandOf s y .low;
-      high = bandOf s y .high;
+      low = bandOf w s y .low;
+      high = bandOf w s y .high;
       month = monthOf s;
       age = c .told - monthOf s;
       lowRate = r .low;
       highRate = r .high;
     }
 
-pub record Finds (c : Count) (s : List ℕ) (y : ℕ) (a : Outcome Finding) : Type 0 where
+pub record Finds (c : Count) (w : Which) (s : List ℕ) (y : ℕ) (a : Outcome Finding) : Type 0 where
   pub not-after-told : monthOf s ≤ c .told
   pub rates : SignedPair
-  pub found : a ≡ done (findingOf c s y rates)
-  pub band : Band s y (bandOf s y)
+  pub found : a ≡ done (findingOf c w s y rates)
+  pub band : Band w s y (bandOf w s y)
   -- the largest and the smallest of the rule, and the true curve's own rate of every order between them
-  pub band-rates : BandRates y (bandOf s y) rates
+  pub band-rates : BandRates y (bandOf w s y) rates
   pub rates-ordered : rates .low ≤ℤ rates .high
-  pub holds-true-rate : (n : ℕ) → RateBetween y rates (trueFactor n (typed s) y)
+  pub holds-true-rate : (n : ℕ) → RateBetween y rates (trueFactor w n (typed s) y)
 
-pub record LookTells (limit : ℕ) (c : Count) (y : ℕ) (a : Outcome Finding) : Type 0 where
+pub record LookTells (limit : ℕ) (c : Count) (w : Which) (y : ℕ) (a : Outcome Finding) : Type 0 where
   pub outside : (1 ≤ y → y ≤ 150 → ⊥) → a ≡ refused yearOutside
-  -- no curve exactly when no post was accepted
-  pub none-found : 1 ≤ y → y ≤ 150 → (a ≡ refused noCurve) ↔ (c .sheet ≡ unposted)
+  -- no curve exactly when it is missing
+  pub none-found : 1 ≤ y → y ≤ 150 → (a ≡ refused noCurve) ↔ (missing w (c .sheet) ≡ true)
   -- otherwise the last accepted sheet's band, rates, month and age, within the age limit and where the year has a high rate
   pub finds :
-      (s : List ℕ) → c .sheet ≡ posted s → c .told - monthOf s ≤ limit → 1 ≤ y → y ≤ 150 →
-      HighRateExists y (bandOf s y .low) → Finds c s y a
+      (s : List ℕ) → Carries c w s → c .told - monthOf s ≤ limit → 1 ≤ y → y ≤ 150 →
+      HighRateExists y (bandOf w s y .low) → Finds c w s y a
   -- of an older curve the 16 alone
-  pub too-old : (s : List ℕ) → c .sheet ≡ posted s → limit < c .told - monthOf s → 1 ≤ y → y ≤ 150 → a ≡ refused ageAboveLimit
+  pub too-old : (s : List ℕ) → Carries c w s → limit < c .told - monthOf s → 1 ≤ y → y ≤ 150 → a ≡ refused ageAboveLimit
   -- of a year without a high rate the 17 alone
   pub no-high-rate :
-      (s : List ℕ) → c .sheet ≡ posted s → c .told - monthOf s ≤ limit → 1 ≤ y → y ≤ 150 →
-      (HighRateExists y (bandOf s y .low) → ⊥) → a ≡ refused noHighRate
+      (s : List ℕ) → Carries c w s → c .told - monthOf s ≤ limit → 1 ≤ y → y ≤ 150 →
+      (HighRateExists y (bandOf w s y .low) → ⊥) → a ≡ refused noHighRate
 
 -- ---- a page, as its reader finds it: record y starts at byte 5 + 10 × (y - 1), numbers have the high byte first
 
@@ -98,20 +114,20 @@ pub record PageWritten (l : List ℕ) (month age : ℕ) (band : ℕ → Pair) (p
   pub same-length : length (p .buffer) ≡ length l
   pub past-kept : drop 1_505 (p .buffer) ≡ drop 1_505 l
 
-pub record PageTells (limit : ℕ) (c : Count) (l : List ℕ) (p : Paged) : Type 0 where
+pub record PageTells (limit : ℕ) (c : Count) (w : Which) (l : List ℕ) (p : Paged) : Type 0 where
   pub untouched : (g : Ground) → p .answer ≡ refused g → p .buffer ≡ l
-  pub none-found : (p .answer ≡ refused noCurve) ↔ (c .sheet ≡ unposted)
+  pub none-found : (p .answer ≡ refused noCurve) ↔ (missing w (c .sheet) ≡ true)
   -- of an older curve the 16 alone, however long the buffer
-  pub too-old : (s : List ℕ) → c .sheet ≡ posted s → limit < c .told - monthOf s → p .answer ≡ refused ageAboveLimit
-  pub too-short : (s : List ℕ) → c .sheet ≡ posted s → c .told - monthOf s ≤ limit → length l < 1_505 → p .answer ≡ refused bufferTooShort
+  pub too-old : (s : List ℕ) → Carries c w s → limit < c .told - monthOf s → p .answer ≡ refused ageAboveLimit
+  pub too-short : (s : List ℕ) → Carries c w s → c .told - monthOf s ≤ limit → length l < 1_505 → p .answer ≡ refused bufferTooShort
   pub writes :
-      (s : List ℕ) → c .sheet ≡ posted s → c .told - monthOf s ≤ limit → 1_505 ≤ length l →
-      PageWritten l (monthOf s) (c .told - monthOf s) (bandOf s) p
+      (s : List ℕ) → Carries c w s → c .told - monthOf s ≤ limit → 1_505 ≤ length l →
+      PageWritten l (monthOf s) (c .told - monthOf s) (bandOf w s) p
   -- every year's, whether it has a high rate or not
-  pub bands : (s : List ℕ) → c .sheet ≡ posted s → c .told - monthOf s ≤ limit → (y : ℕ) → 1 ≤ y → y ≤ 150 → Band s y (bandOf s y)
+  pub bands : (s : List ℕ) → Carries c w s → c .told - monthOf s ≤ limit → (y : ℕ) → 1 ≤ y → y ≤ 150 → Band w s y (bandOf w s y)
 
 -- ---- any question
 
 abbrev pub Tells : ℕ → Count → (q : Question) → AnswerTo q → Type 0
-Tells limit c (lookAt y) a = LookTells limit c y a
-Tells limit c (pageInto l) p = PageTells limit c l p
+Tells limit c (lookAt w y) a = LookTells limit c w y a
+Tells limit c (pageInto w l) p = PageTells limit c w l p

@@ -7,8 +7,8 @@ use Rattle.method.specs.Quotes.{insideYears, lastYear, used, kept, gapYe
 use Rattle.method.specs.Series.{logarithmSum, logarithm, G, gapForward, ultimateForward, growthSum, growth}
 use Rattle.method.specs.Table.{table}
 use Rattle.method.specs.Extrapolation.{llfrNumerator, llfr, convergenceFactor, κPairs, decayPair, scalePair, weightsFrom, weights}
-use Rattle.method.specs.Extrapolation.{forward, step, extrapolate, firstTooWide}
-use Rattle.method.specs.Curve.{spread, factorOf, withinLimit, extended, curveOf, answer}
+use Rattle.method.specs.Extrapolation.{forward, step, extrapolate, steps, adjustedYears, firstRaised, firstTooWide}
+use Rattle.method.specs.Curve.{spread, factorOf, withinLimit, extended, curveOf, adjustedCurve, curvesOf, answer}
 use Rattle.method.specs.Bytes.{bigEndian}
 
 unfoldable pub computes : ℕ
@@ -17,6 +17,6 @@ unfolding maturities volumeMaturities firstEntries bytesOf layoutOf entriesOf si
     used kept gapYears parYear yearsTo bootstrapFrom quotesOf bootstrap
     logarithmSum logarithm G gapForward ultimateForward growthSum growth
     table llfrNumerator llfr convergenceFactor κPairs decayPair scalePair weightsFrom weights
-    forward step extrapolate firstTooWide
-    spread factorOf withinLimit extended curveOf answer
+    forward step extrapolate steps adjustedYears firstRaised firstTooWide
+    spread factorOf withinLimit extended curveOf adjustedCurve curvesOf answer
 computes = 0

@@ -17,7 +17,8 @@ use Rattle.method.specs.Sheet.{Numbers, maturities, volumeMaturities, to
 use Rattle.method.specs.Quotes.{used, kept, Bootstrap, bootstrap}
 use Rattle.method.specs.Series.{gapForward}
 use Rattle.method.specs.Extrapolation.{at, llfrNumerator, llfr}
-use Rattle.method.specs.Curve.{smoothingIndex, usedBy, usedQuotes, spread, gapForwards, factorOf, extended, curveOf, answer}
+use Rattle.method.specs.Curve.{smoothingIndex, usedBy, usedQuotes, spread, gapForwards, factorOf}
+use Rattle.method.specs.Curve.{extended, curveOf, adjustedCurve, adjustedIf, curvesOf, answer}
 use Rattle.method.proofs.Entries.{map-at}
 use Rattle.method.proofs.Used.{kept-quotes, kept-front, used-to, used-past, spread-length, as-many-marks, gaps-length}
 
@@ -35,6 +36,8 @@ withRates n rs =
       ultimate = n .ultimate;
       limit = n .limit;
       phaseIn = n .phaseIn;
+      adjusts = n .adjusts;
+      adjustment = n .adjustment;
     }
 
 -- the 20-year rate is among the used
@@ -42,15 +45,26 @@ smoothing-rate : (vs : List ℕ) (rs : List ℤ) → getD (kept (used smoothingI
 unfolding used
 smoothing-rate vs rs = kept-front 13 _ rs smoothingIndex (pos 0) (lit< tt)
 
--- rates that agree on the used quotes give the same curve, or the same refusal: a dropped quote has no say
-pub no-say : (n : Numbers) (rs : List ℤ) → kept (usedBy n) rs ≡ kept (usedBy n) (n .rates) → curveOf (withRates n rs) ≡ curveOf n
-unfolding curveOf extended factorOf
-no-say n rs same =
-    let us = usedBy n in
-    rw (kept-quotes us maturities rs, kept-quotes us maturities (n .rates), same, at-20) refl
-  where
-    at-20 : getD rs smoothingIndex (pos 0) ≡ getD (n .rates) smoothingIndex (pos 0)
-    at-20 = sym (smoothing-rate (n .volumes) rs) ∙ ap (λ (zs : List ℤ). getD zs smoothingIndex (pos 0)) same ∙ smoothing-rate (n .volumes) (n .rates)
+module _ (n : Numbers) (rs : List ℤ) (same : kept (usedBy n) rs ≡ kept (usedBy n) (n .rates)) where
+  at-20 : getD rs smoothingIndex (pos 0) ≡ getD (n .rates) smoothingIndex (pos 0)
+  at-20 = sym (smoothing-rate (n .volumes) rs) ∙ ap (λ (zs : List ℤ). getD zs smoothingIndex (pos 0)) same ∙ smoothing-rate (n .volumes) (n .rates)
+
+  same-plain : curveOf (withRates n rs) ≡ curveOf n
+  unfolding curveOf extended factorOf
+  same-plain = rw (kept-quotes (usedBy n) maturities rs, kept-quotes (usedBy n) maturities (n .rates), same, at-20) refl
+
+  same-adjusted : adjustedCurve (withRates n rs) ≡ adjustedCurve n
+  unfolding adjustedCurve extended factorOf
+  same-adjusted = rw (kept-quotes (usedBy n) maturities rs, kept-quotes (usedBy n) maturities (n .rates), same, at-20) refl
+
+  -- rates that agree on the used quotes give the same curves, or the same refusal: a dropped quote has no say
+  pub no-say : curvesOf (withRates n rs) ≡ curvesOf n
+  unfolding curvesOf
+  no-say = rw (same-plain, same-if (n .adjusts))
+    where
+      same-if : (t : Bool) → adjustedIf t (withRates n rs) ≡ adjustedIf t n
+      same-if true = rw same-adjusted
+      same-if false = refl
 
 -- but it is read: whatever the volumes, a sheet that fails one of 1 to 4 is turned down on it
 pub still-tested : (s : List ℕ) {g : Ground} → readSheet s ≡ refused g → answer s ≡ refused g

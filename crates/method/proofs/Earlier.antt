@@ -11,17 +11,17 @@ use lib.Dec.{ltb, lit≤, lit<}
 use lib.ListN.{length, take, drop, getD, replicate, length-drop}
 use Rattle.fraction.specs.Rounding.{U}
 use Rattle.method.specs.Units.{Pair, pair}
-use Rattle.method.specs.Grounds.{Outcome, done, _>>=_}
-use Rattle.method.specs.Sheet.{Numbers, maturities, volumeMaturities, firstEntries, layoutOf, entriesOf, sheetNumbers, readSheet}
+use Rattle.method.specs.Grounds.{Ground, Outcome, refused, done, _>>=_}
+use Rattle.method.specs.Sheet.{Numbers, maturities, volumeMaturities, firstEntries, Layout, layoutOf, entriesOf, sheetNumbers, readSheet}
 use Rattle.method.specs.Quotes.{used, kept, Quote, Bootstrap, bootstrap, quotesOf, lastYear}
 use Rattle.method.specs.Series.{gapForward, ultimateForward}
 use Rattle.method.specs.Table.{table}
 use Rattle.method.specs.Extrapolation.{llfr, κPairs, extrapolate}
 use Rattle.method.specs.Curve.{smoothingYear, smoothingIndex, usedBy, usedQuotes, spread, gapForwards, factorOf, withinLimit, extended}
-use Rattle.method.specs.Curve.{Curve, curveWith, curveOf, answer}
+use Rattle.method.specs.Curve.{Curve, Curves, none, curveWith, curveOf, curvesOf, answer}
 use Rattle.method.specs.Earlier.{tabledCurve, everyQuoteCurve}
 use Rattle.method.proofs.Outcome.{bind-assoc, bind-with}
-use Rattle.method.proofs.Layouts.{phased-is}
+use Rattle.method.proofs.Layouts.{layout-is}
 use Rattle.method.proofs.Reading.{read-passes}
 use Rattle.method.proofs.SheetBounds.{read-bounds}
 use Rattle.method.proofs.Entries.{spelled-out}
@@ -41,6 +41,22 @@ at-ten-percent n seventeen ten =
     (extrapolate (ultimateForward (n .ultimate)) (llfr (n .volumes) (gapForwards n b)) (κPairs table) 21 (lastYear quoted))
     (λ later. withinLimit (n .limit) (quoted ++ later))
     (λ years. done (curveWith n years)))
+
+-- ---- no adjustment
+
+-- one curve, and no other
+abbrev pub alone : Curve → Curves
+alone c = record { plain = c; adjusted = none }
+
+-- without an adjustment the curves are the plain one, digit for digit, with its grounds
+pub without-adjustment : (n : Numbers) → n .adjusts ≡ false → curvesOf n ≡ (curveOf n >>= λ c. done (alone c))
+unfolding curvesOf
+without-adjustment n e = rw e
+
+-- with one the plain curve is the same, and its grounds come first
+pub plain-first : (n : Numbers) {g : Ground} → curveOf n ≡ refused g → curvesOf n ≡ refused g
+unfolding curvesOf
+plain-first n e = rw e
 
 -- ---- no volume past 20 years is 0; the one at 20 may be
 
@@ -85,24 +101,28 @@ module _ (n : Numbers) (seventeen : length (n .rates) ≡ 17) (five : length (n 
 -- ---- a sheet of up to 109 bytes
 
 module _ (s : List ℕ) (h : length s ≤ 109) where
-  plain : layoutOf s .phased ≡ false
-  plain = phased-is s ∙ le-ltb 109 (length s) h
+  neither : layoutOf s ≡ record { phased = false; adjusts = false }
+  neither = rw (layout-is s, le-ltb 109 (length s) h)
 
   -- its records are the first 25
   pub first-records : entriesOf (layoutOf s) ≡ firstEntries
   unfolding entriesOf
-  first-records = rw plain (append-nil firstEntries)
+  first-records = rw neither (append-nil firstEntries)
 
   pub without-record : factorOf (sheetNumbers s) ≡ 10_000_000
   unfolding factorOf
-  without-record = rw plain (factor-plain _)
+  without-record = rw neither (factor-plain _)
 
-  -- so it has the answer that the table gives
-  pub earlier-answer : answer s ≡ (readSheet s >>= tabledCurve)
+  -- so it has the answer that the table gives, and no other curve
+  pub earlier-answer : answer s ≡ (readSheet s >>= λ n. tabledCurve n >>= λ c. done (alone c))
   unfolding answer
   earlier-answer =
       bind-with (readSheet s)
-      λ n e. at-ten-percent n (read-bounds s n e .rate-count) (subst (λ (m : Numbers). factorOf m ≡ 10_000_000) (read-passes s n e .numbers) without-record)
+      λ n e.
+      let numbers = read-passes s n e .numbers in
+      without-adjustment n (subst (λ (m : Numbers). m .adjusts ≡ false) numbers (ap (λ (l : Layout). l .adjusts) neither))
+      ∙ ap (λ (o : Outcome Curve). o >>= λ c. done (alone c))
+      (at-ten-percent n (read-bounds s n e .rate-count) (subst (λ (m : Numbers). factorOf m ≡ 10_000_000) numbers without-record))
 
 -- ---- and any sheet whose factor is 10%
 

@@ -8,7 +8,7 @@ use native.Mathlib.Nat.{le-of-suc-le-suc}
 use native.Mathlib.Omega.{arith}
 use borrow.Author.Tests.{eqb-true, leb-true}
 use lib.Dec.{leb, eqb, lit<}
-use lib.IntN.{pos}
+use lib.IntN.{pos, natAbs}
 use lib.ListN.{length, getD, length-append}
 use Rattle.fraction.specs.Fraction.{ℚ, _≈_, Positive, natℚ, intℚ, _÷_}
 use Rattle.fraction.specs.Rounding.{Encloses}
@@ -44,6 +44,7 @@ pub record Usable (s : Numbers) : Type 0 where
   pub ultimate-most : s .ultimate ≤ 10_000
   pub phase-in-least : 10_000 ≤ s .phaseIn
   pub phase-in-most : s .phaseIn ≤ 20_000
+  pub adjustment-size : natAbs (s .adjustment) ≤ 500
 
 -- ---- ground 8
 

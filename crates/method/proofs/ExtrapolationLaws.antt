@@ -16,11 +16,11 @@ use Rattle.fraction.proofs.Integer.{intℚ-mono, natℚ-mono, natℚ-positive}
 use Rattle.fraction.proofs.Quotient.{÷-*ℚ}
 use Rattle.fraction.proofs.Rounding.{U-positive}
 use Rattle.fraction.proofs.Enclosure.{encloses-ordered, encloses-≈, encloses-÷-nat, encloses-ratio, encloses-scaled, nat-encloses}
-use Rattle.method.specs.Units.{Pair, SignedPair}
+use Rattle.method.specs.Units.{Pair, SignedPair, signedPair}
 use Rattle.method.specs.Grounds.{highAboveLimit, Outcome, refused, done, _>>=_}
 use Rattle.method.specs.Quotes.{highestFactor}
 use Rattle.method.specs.Series.{growthSum, growth, growthLow, growthHigh}
-use Rattle.method.specs.Extrapolation.{forward, stepLow, stepHigh, step, extrapolate}
+use Rattle.method.specs.Extrapolation.{forward, stepLow, stepHigh, step, extrapolate, billionths, steps, adjustedYears}
 use Rattle.method.specs.True.{billion}
 use Rattle.method.proofs.Forward.{Weighs, forward-encloses}
 
@@ -56,6 +56,24 @@ module _ (l f : SignedPair) (κ : Pair) (κs : List Pair) (year : ℕ) (p : Pair
 pub no-year : (l f : SignedPair) (year : ℕ) (p : Pair) → extrapolate l f [] year p ≡ done []
 unfolding extrapolate
 no-year l f year p = refl
+
+-- ---- so is an adjusted year
+
+module _ (a : ℤ) (p : Pair) (ps : List Pair) (year : ℕ) where
+  abbrev taken : Pair
+  taken = steps (signedPair (billionths a) (billionths a)) year p
+
+  pub adjusted-worked : taken .high ≤ highestFactor → adjustedYears a year (p ∷ ps) ≡ after (taken ∷ []) (adjustedYears a (year + 1) ps)
+  unfolding adjustedYears
+  adjusted-worked h = rw (le-leb _ _ h) (after-one taken (adjustedYears a (year + 1) ps))
+
+  pub adjusted-refused : highestFactor < taken .high → adjustedYears a year (p ∷ ps) ≡ refused (highAboveLimit year)
+  unfolding adjustedYears
+  adjusted-refused h = rw (lt-leb _ _ h)
+
+pub none-adjusted : (a : ℤ) (year : ℕ) → adjustedYears a year [] ≡ done []
+unfolding adjustedYears
+none-adjusted a year = refl
 
 -- ---- what keeps the low at most the high
 
@@ -93,6 +111,12 @@ step-ordered f p hf hp = go (f .low) (f .high) hf
         omega (arith, fallen, risen)
     go (pos a) (negsuc b) h = absurd (h .le)
     go (negsuc a) (negsuc b) h = ordered (encloses-scaled U-positive (between hp) (between (growth-ordered (suc b) (suc a) (suc-le-suc (leb→le b a (h .le))))))
+
+-- t of them
+pub steps-ordered : (f : SignedPair) (t : ℕ) (p : Pair) → f .low ≤ℤ f .high → p .low ≤ p .high → steps f t p .low ≤ steps f t p .high
+unfolding steps
+steps-ordered f zero p hf hp = hp
+steps-ordered f (suc t) p hf hp = steps-ordered f t (step f p) hf (step-ordered f p hf hp)
 
 -- and a year's forward, between ordered ones
 pub forward-ordered : (l f : SignedPair) (κ : Pair) → κ .low ≤ κ .high → κ .high ≤ U → l .low ≤ℤ l .high → f .low ≤ℤ f .high →

@@ -1,6 +1,7 @@
 pub mod Computes
 pub mod Figures
 pub mod Outcome
+pub mod Holding
 pub mod Enclosed
 pub mod Entries
 pub mod Par
@@ -24,6 +25,7 @@ pub mod SeriesExamples
 pub mod Size
 pub mod Forward
 pub mod Step
+pub mod Adjusted
 pub mod ExtrapolationLaws
 pub mod ForwardExamples
 pub mod TrialLaws

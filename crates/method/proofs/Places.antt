@@ -17,8 +17,8 @@ use Rattle.method.specs.Grounds.{yearOutside, noCurve, bufferTooShort, a
 use Rattle.method.specs.Sheet.{layoutOf, sizeOf, Slot, slotsOf, firstFailure, rightRecord, inRange, total, Numbers, sheetNumbers, readSheet, maturities}
 use Rattle.method.specs.Quotes.{annuity, parLow, parHigh, trial, highestFactor, nextYear, quotedYear, insideYears, Bootstrap, gapYears}
 use Rattle.method.specs.Quotes.{Quote, parYear, yearsTo, bootstrapFrom, quotesOf, bootstrap}
-use Rattle.method.specs.Extrapolation.{weights, forward, step, extrapolate, firstTooWide}
-use Rattle.method.specs.Curve.{usedBy, usedQuotes, factorOf, withinLimit, extended, curveOf, answer, smoothingYear}
+use Rattle.method.specs.Extrapolation.{weights, forward, step, extrapolate, steps, adjustedYears, firstTooWide}
+use Rattle.method.specs.Curve.{usedBy, usedQuotes, factorOf, withinLimit, extended, curveOf, adjustedCurve, adjustedIf, curvesOf, answer, smoothingYear}
 use Rattle.method.specs.Ranges.{climbs}
 use Rattle.method.proofs.QuotesLaws.{endsPass, inside, years-cases}
 use Rattle.method.proofs.QuotesBounds.{next-length, inside-length, climbs-more, climbs-within, years-length}
@@ -26,6 +26,7 @@ use Rattle.method.proofs.Used.{kept-quotes, usedMaturities, used-climb}
 use Rattle.method.proofs.Slots.{slots-most}
 use Rattle.method.proofs.Weights.{weights-most}
 use Rattle.method.proofs.Step.{extrapolate-length}
+use Rattle.method.proofs.Adjusted.{bothEnds, adjusted-length}
 
 -- 0 where nothing was refused, so that a bound is one inequality
 abbrev pub place : {A : Type 0} → Outcome A → ℕ
@@ -63,11 +64,11 @@ wide-most limit year (p ∷ ps) h =
 
 -- ---- grounds 1 to 4
 
-pub read-place : (s : List ℕ) → place (readSheet s) ≤ 26
+pub read-place : (s : List ℕ) → place (readSheet s) ≤ 27
 unfolding readSheet
 read-place s =
     let slots = slotsOf (layoutOf s) in
-    let first : (p : Slot → Bool) → firstFailure p 1 slots ≤ 26 = λ p. failure-most p 1 slots (omega (arith, slots-most (layoutOf s))) in
+    let first : (p : Slot → Bool) → firstFailure p 1 slots ≤ 27 = λ p. failure-most p 1 slots (omega (arith, slots-most (layoutOf s))) in
     demand-place (eqb (length s) (sizeOf (layoutOf s))) _ _ (omega arith)
     (demand-place (eqb (firstFailure (rightRecord s) 1 slots) 0) _ _ (first (rightRecord s))
     (demand-place (eqb (firstFailure (inRange s) 1 slots) 0) _ _ (first (inRange s))
@@ -148,7 +149,16 @@ extended-place n f quoted short =
     let all : length (quoted ++ later) ≤ 150 = rw length-append (omega arith) in
     demand-place (eqb (firstTooWide (n .limit) 1 (quoted ++ later)) 0) _ _ (wide-most (n .limit) 1 _ (omega arith)) (omega arith)
 
-pub curve-place : (n : Numbers) → place (curveOf n) ≤ 150
+-- ground 8 to the smoothing year
+adjusted-years-place : {m : ℕ} (a : ℤ) (year : ℕ) (ps : List Pair) → year + length ps ≤ m + 1 → place (adjustedYears a year ps) ≤ m
+unfolding adjustedYears
+adjusted-years-place a year [] h = omega arith
+adjusted-years-place a year (p ∷ ps) h =
+    let next = steps (bothEnds a) year p in
+    demand-place (leb (next .high) highestFactor) _ _ (omega arith)
+    (bind-place (adjustedYears a (year + 1) ps) _ (adjusted-years-place a (year + 1) ps (omega arith)) λ later e. omega arith)
+
+curve-place : (n : Numbers) → place (curveOf n) ≤ 150
 unfolding curveOf
 curve-place n =
     bind-place (bootstrap (usedQuotes n)) _ (omega (arith, bootstrap-place n))
@@ -157,14 +167,34 @@ curve-place n =
     bind-place (extended n _ (take smoothingYear (b .factors))) _ (extended-place n _ (take smoothingYear (b .factors)) short)
     λ years e. omega arith
 
+adjusted-place : (n : Numbers) → place (adjustedCurve n) ≤ 150
+unfolding adjustedCurve
+adjusted-place n =
+    bind-place (bootstrap (usedQuotes n)) _ (omega (arith, bootstrap-place n))
+    λ b d.
+    let quoted = take smoothingYear (b .factors) in
+    let short : length quoted ≤ 20 = rw length-take (omega arith) in
+    bind-place (adjustedYears (n .adjustment) 1 quoted) _ (adjusted-years-place (n .adjustment) 1 quoted (omega arith))
+    λ years e.
+    bind-place (extended n _ years) _ (extended-place n _ years (omega (arith, adjusted-length (n .adjustment) 1 quoted e)))
+    λ all f. omega arith
+
+if-place : (b : Bool) (n : Numbers) → place (adjustedIf b n) ≤ 150
+if-place true n = bind-place (adjustedCurve n) _ (adjusted-place n) λ c e. omega arith
+if-place false n = omega arith
+
+pub curves-place : (n : Numbers) → place (curvesOf n) ≤ 150
+unfolding curvesOf
+curves-place n = bind-place (curveOf n) _ (curve-place n) λ c e. bind-place (adjustedIf (n .adjusts) n) _ (if-place (n .adjusts) n) λ a d. omega arith
+
 -- ---- the answer of any bytes
 
 pub answer-place : (s : List ℕ) (g : Ground) → answer s ≡ refused g → placeOf g ≤ 150
 unfolding answer
 answer-place s g e = rw e at most
   where
-    most : place (readSheet s >>= curveOf) ≤ 150
-    most = bind-place (readSheet s) curveOf (omega (arith, read-place s)) λ n d. curve-place n
+    most : place (readSheet s >>= curvesOf) ≤ 150
+    most = bind-place (readSheet s) curvesOf (omega (arith, read-place s)) λ n d. curves-place n
 
 -- ---- a number is below 256, so that it can stand beside the place in one number
 

@@ -9,16 +9,20 @@ use lib.IntN.{ℤ, pos, negsuc, negℤ, natAbs}
 use Rattle.fraction.specs.Rounding.{U, ceilDiv}
 use Rattle.method.specs.Units.{Pair, SignedPair, signedPair}
 use Rattle.method.specs.Quotes.{lowerEnd, upperEnd}
-use Rattle.method.specs.Series.{logarithmSum, logarithm, G, gapForward, ultimateForward}
+use Rattle.method.specs.Series.{logarithmSum, logarithm, G, gapForward, ultimateForward, growthSum, growth, growthLow, growthHigh}
 use Rattle.method.proofs.Quotients.{Below, down-below-up, up-below-up, ceilDiv-≤}
 use Rattle.method.proofs.Logarithm.{distance, logarithmLow, logarithmHigh, G-cases}
-use Rattle.method.specs.Ranges.{growthRange, forwardBound}
+use Rattle.method.specs.Ranges.{growthRange, logarithmBound}
 
 -- ---- the steps, rounded either way
 
 -- z, from U / 9
 abbrev pub zBound : ℕ
 zBound = 111_111_112
+
+-- E at an adjustment
+abbrev pub smallGrowth : ℕ
+smallGrowth = 1_005_100_000
 
 -- s = z × z / U
 abbrev pub sBound : ℕ
@@ -45,16 +49,32 @@ module _ {round : ℕ → ℕ → ℕ} (b : Below round ceilDiv) where
   logarithmSum-mono (suc k) odd h l =
       add-le-add (b .below odd l) (logarithmSum-mono k (odd + 2) h (b .below U (mul-le-mul l h)))
 
-  pub logarithm-≤ : (d x : ℕ) → 9 * d ≤ U + x → logarithm round d x < forwardBound
+  pub logarithm-≤ : (d x : ℕ) → 9 * d ≤ U + x → logarithm round d x < logarithmBound
   unfolding logarithm logarithmSum
   logarithm-≤ d x h =
       let z = z-≤ d x h in
       lt-of-le-of-lt (mul-le-mul-left 2 (logarithmSum-mono 5 1 (s-≤ z) z)) (lit< tt)
 
+  growthSum-mono : (k i : ℕ) {y z t u : ℕ} → y ≤ z → t ≤ u → growthSum round y i t k ≤ growthSum ceilDiv z i u k
+  unfolding growthSum
+  growthSum-mono zero i h l = omega arith
+  growthSum-mono (suc k) i h l =
+      let next = b .below (i * U) (mul-le-mul l h) in
+      add-le-add next (growthSum-mono k (suc i) h next)
+
+  growth-small : {y : ℕ} → y ≤ 5_000_000 → growth round y < smallGrowth
+  unfolding growth growthSum
+  growth-small h = lt-of-le-of-lt (add-le-add (le-refl U) (growthSum-mono 7 1 h (le-refl U))) (lit< tt)
+
+-- ---- E at an adjustment, of either side: e^0.005 is 1,005,012,520.9
+
+pub small-growths : (y : ℕ) → y ≤ 5_000_000 → (growthLow y ≤ smallGrowth) × (growthHigh y ≤ smallGrowth)
+small-growths y h = (omega (arith, growth-small down-below-up h), omega (arith, growth-small up-below-up h))
+
 -- ---- the logarithm and the two forwards
 
 abbrev pub Bounded : SignedPair → Type 0
-Bounded g = (natAbs (g .low) ≤ forwardBound) × (natAbs (g .high) ≤ forwardBound)
+Bounded g = (natAbs (g .low) ≤ logarithmBound) × (natAbs (g .high) ≤ logarithmBound)
 
 natAbs-neg : (z : ℤ) → natAbs (negℤ z) ≡ natAbs z
 natAbs-neg (pos zero) = refl

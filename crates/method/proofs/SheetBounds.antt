@@ -1,18 +1,20 @@
 -- The numbers of a sheet that is read are in their ranges.
-use mathlib.Core.Path.{_≡_, refl, ap, subst}
+use mathlib.Core.Path.{_≡_, refl, ap, subst, _∙_}
 use mathlib.Core.Bool.{Bool, true, false, cond, _&&_}
 use mathlib.Core.List.{List, [], _∷_, map}
-use Prim.Native.Nat.{ℕ, zero, suc, _+_, _*_, _≤_, _<_, zero-le, suc-le-suc}
+use Prim.Native.Nat.{ℕ, zero, suc, _+_, _-_, _*_, _≤_, _<_, zero-le, suc-le-suc}
 use native.Mathlib.Omega.{arith}
 use lib.Dec.{leb}
 use lib.IntN.{ℤ, pos, negsuc, natAbs}
-use lib.ListN.{length, take, drop, getD}
+use lib.ListN.{length, take, drop, getD, length-map}
 use lib.Signed.{leZ}
 use borrow.Author.Tests.{leb-true}
 use Rattle.method.specs.Grounds.{done}
-use Rattle.method.specs.Sheet.{Layout, layoutOf, Slot, slotsOf, slotAt, numberOfRecord, inRange, total, Numbers, allNumbers, sheetNumbers, readSheet}
+use Rattle.method.specs.Sheet.{adjustment, Layout, layoutOf, Slot, slot, slotsOf, slotAt}
+use Rattle.method.specs.Sheet.{numberOfRecord, inRange, total, Numbers, allNumbers, sheetNumbers, readSheet}
 use Rattle.method.proofs.Outcome.{both-true}
-use Rattle.method.proofs.Slots.{slots-least, slots-phased, month-slot, rate-slot, volume-slot, ultimate-slot, limit-slot, phase-in-slot}
+use Rattle.method.proofs.Slots.{slots-least, slots-phased, slots-adjusts, month-slot, rate-slot, volume-slot, ultimate-slot, limit-slot}
+use Rattle.method.proofs.Slots.{phase-in-slot, adjustment-slot}
 use Rattle.method.proofs.Slots.{none-fails, number-at, rates-length, rate-at, volumes-length, volume-at}
 use Rattle.method.proofs.Reading.{firstOutside, read-passes}
 use Rattle.method.specs.Ranges.{RateInRange, NumbersInRange}
@@ -27,6 +29,10 @@ natural-range low n high e =
 integer-range : (z : ℤ) → (leZ (negsuc 1_999) z && leZ z (pos 12_000)) ≡ true → RateInRange z
 integer-range (pos n) e = let h = leb-true n 12_000 e in omega arith
 integer-range (negsuc n) e = let h = leb-true n 1_999 (both-true (leb n 1_999) true e .0) in omega arith
+
+adjustment-range : (z : ℤ) → (leZ (negsuc 499) z && leZ z (pos 500)) ≡ true → natAbs z ≤ 500
+adjustment-range (pos n) e = leb-true n 500 e
+adjustment-range (negsuc n) e = let h = leb-true n 499 (both-true (leb n 499) true e .0) in omega arith
 
 -- ---- lists
 
@@ -90,6 +96,24 @@ module _ (s : List ℕ) (inside : firstOutside s ≡ 0) where
       go true range = range refl
       go false range = omega arith
 
+  -- 0 where the record does not stand
+  adjustment-most : natAbs (sheetNumbers s .adjustment) ≤ 500
+  adjustment-most = go _ (layout .adjusts) present
+    where
+      present : layout .adjusts ≡ true → natAbs (getD (allNumbers s) (length (allNumbers s) - 1) (pos 0)) ≤ 500
+      present e =
+          let count : length (allNumbers s) ≡ 26 + cond (layout .phased) 1 0 = length-map (slotsOf layout) (numberOfRecord s) ∙ slots-adjusts layout e in
+          let at : length (allNumbers s) - 1 ≡ 25 + cond (layout .phased) 1 0 = omega arith in
+          let i : ℕ = 25 + cond (layout .phased) 1 0 in
+          let t : Slot = slot adjustment 0 (109 + cond (layout .phased) 3 0) in
+          let inside : i < length (slotsOf layout) = omega (arith, slots-adjusts layout e) in
+          let due = adjustment-slot layout e in
+          rw (at, number-at s i t inside due) (adjustment-range (numberOfRecord s t) (in-range i t inside due))
+
+      go : (z : ℤ) (adjusts : Bool) → (adjusts ≡ true → natAbs z ≤ 500) → natAbs (cond adjusts z (pos 0)) ≤ 500
+      go z true range = range refl
+      go z false range = omega arith
+
   numbers-in-range : 0 < total (sheetNumbers s .volumes) → NumbersInRange (sheetNumbers s)
   numbers-in-range traded =
       let n = sheetNumbers s in
@@ -108,6 +132,7 @@ module _ (s : List ℕ) (inside : firstOutside s ≡ 0) where
         limit-most = limit-range .1;
         phase-in-least = phase-in-range .0;
         phase-in-most = phase-in-range .1;
+        adjustment-size = adjustment-most;
       }
 
 pub read-bounds : (s : List ℕ) (n : Numbers) → readSheet s ≡ done n → NumbersInRange n

@@ -8,8 +8,8 @@ use native.Mathlib.Omega.{arith}
 use lib.IntN.{pos, natAbs}
 use lib.ListN.{length, take, drop, getD, length-take, length-drop, length-map, drop-of-length-le, List·getD-map}
 use lib.Seq.{getD-take, getD-drop, drop-cons}
-use Rattle.method.specs.Sheet.{Kind, month, rate, volume, ultimate, limit, phaseIn, bodyLength, maturities, volumeMaturities, Entry, entry}
-use Rattle.method.specs.Sheet.{firstEntries, Layout, layoutOf, entriesOf, Slot, slotsFrom, slotsOf, slot, noSlot, slotAt}
+use Rattle.method.specs.Sheet.{Kind, month, rate, volume, ultimate, limit, phaseIn, adjustment, bodyLength, maturities, volumeMaturities, Entry, entry}
+use Rattle.method.specs.Sheet.{firstEntries, optional, Layout, layoutOf, entriesOf, Slot, slotsFrom, slotsOf, slot, noSlot, slotAt}
 use Rattle.method.specs.Sheet.{numberOfRecord, allNumbers, firstFailure}
 
 -- ---- where each slot starts
@@ -28,34 +28,39 @@ unfolding maturities volumeMaturities
 volume-maturities = refl
 
 -- what follows the limit's record
-abbrev last : Bool → List Entry
-last phased = cond phased (entry phaseIn 0 ∷ []) []
+abbrev last : Layout → List Entry
+last l = optional (l .phased) phaseIn ++ optional (l .adjusts) adjustment
+
+-- one slot for each of the two records that stands
+abbrev pub countBy : Bool → Bool → ℕ
+countBy phased adjusts = 25 + cond phased 1 0 + cond adjusts 1 0
 
 module _ (l : Layout) where
-  pub slots-length : length (slotsOf l) ≡ cond (l .phased) 26 25
+  pub slots-length : length (slotsOf l) ≡ countBy (l .phased) (l .adjusts)
   unfolding maturities volumeMaturities firstEntries entriesOf slotsFrom slotsOf
-  slots-length = go (l .phased)
+  slots-length = go (l .phased) (l .adjusts)
     where
-      go : (phased : Bool) → length (slotsOf (record { phased = phased })) ≡ cond phased 26 25
-      go true = refl
-      go false = refl
+      go : (phased adjusts : Bool) → length (slotsOf (record { phased = phased; adjusts = adjusts })) ≡ countBy phased adjusts
+      go true true = refl
+      go true false = refl
+      go false true = refl
+      go false false = refl
+
+  at-most-1 : (b : Bool) → cond b 1 0 ≤ 1
+  at-most-1 true = omega arith
+  at-most-1 false = omega arith
 
   pub slots-least : 25 ≤ length (slotsOf l)
-  slots-least = rw slots-length (go (l .phased))
-    where
-      go : (phased : Bool) → 25 ≤ cond phased 26 25
-      go true = omega arith
-      go false = omega arith
+  slots-least = rw slots-length (omega arith)
+
+  pub slots-most : length (slotsOf l) ≤ 27
+  slots-most = rw slots-length (omega (arith, at-most-1 (l .phased), at-most-1 (l .adjusts)))
 
   pub slots-phased : l .phased ≡ true → 26 ≤ length (slotsOf l)
   slots-phased e = rw (slots-length, e) (omega arith)
 
-  pub slots-most : length (slotsOf l) ≤ 26
-  slots-most = rw slots-length (go (l .phased))
-    where
-      go : (phased : Bool) → cond phased 26 25 ≤ 26
-      go true = omega arith
-      go false = omega arith
+  pub slots-adjusts : l .adjusts ≡ true → length (slotsOf l) ≡ 26 + cond (l .phased) 1 0
+  slots-adjusts e = rw (slots-length, e) (omega arith)
 
   pub month-slot : slotAt l 0 ≡ slot month 0 0
   unfolding maturities volumeMaturities firstEntries entriesOf slotsFrom slotsOf
@@ -65,13 +70,13 @@ module _ (l : Layout) where
   unfolding maturities volumeMaturities firstEntries entriesOf slotsFrom slotsOf
   rate-slot j h =
       sym (getD-drop 1 (slotsOf l) j noSlot) ∙
-      slots-of-kind rate 3 maturities (map (entry volume) volumeMaturities ++ entry ultimate 0 ∷ entry limit 0 ∷ last (l .phased)) j h
+      slots-of-kind rate 3 maturities (map (entry volume) volumeMaturities ++ entry ultimate 0 ∷ entry limit 0 ∷ last l) j h
 
   pub volume-slot : (j : ℕ) → j < 5 → slotAt l (18 + j) ≡ slot volume (getD maturities (12 + j) 0) (71 + 6 * j)
   unfolding maturities volumeMaturities firstEntries entriesOf slotsFrom slotsOf
   volume-slot j h =
       sym (getD-drop 18 (slotsOf l) j noSlot) ∙
-      slots-of-kind volume 71 volumeMaturities (entry ultimate 0 ∷ entry limit 0 ∷ last (l .phased)) j h ∙
+      slots-of-kind volume 71 volumeMaturities (entry ultimate 0 ∷ entry limit 0 ∷ last l) j h ∙
       ap (λ (m : ℕ). slot volume m (71 + 6 * j)) (getD-drop 12 maturities j 0)
 
   pub ultimate-slot : slotAt l 23 ≡ slot ultimate 0 101
@@ -85,6 +90,16 @@ module _ (l : Layout) where
   pub phase-in-slot : l .phased ≡ true → slotAt l 25 ≡ slot phaseIn 0 109
   unfolding maturities volumeMaturities firstEntries entriesOf slotsFrom slotsOf
   phase-in-slot e = rw e
+
+  -- the last, whether the phase-in's stands before it or not
+  pub adjustment-slot : l .adjusts ≡ true → slotAt l (25 + cond (l .phased) 1 0) ≡ slot adjustment 0 (109 + cond (l .phased) 3 0)
+  unfolding maturities volumeMaturities firstEntries entriesOf slotsFrom slotsOf
+  adjustment-slot e = rw e (go (l .phased))
+    where
+      go : (phased : Bool) →
+          slotAt (record { phased = phased; adjusts = true }) (25 + cond phased 1 0) ≡ slot adjustment 0 (109 + cond phased 3 0)
+      go true = refl
+      go false = refl
 
 -- ---- the first failure, one slot after the other
 

@@ -1,23 +1,37 @@
--- The answer of a sheet: the first ground among 1 to 4 and 7 to 10 that applies, or the curve. (5 and 6 are the book's.)
-use mathlib.Core.Bool.{Bool, cond}
+-- The answer of a sheet: the first ground among 1 to 4 and 7 to 10 that applies, or its curves. (5 and 6 are the book's.)
+use mathlib.Core.Bool.{Bool, true, false, cond}
 use mathlib.Core.List.{List, [], _∷_, _++_, map}
 use Prim.Native.Nat.{ℕ, _+_, _-_}
 use lib.Dec.{eqb}
 use lib.IntN.{pos}
 use lib.ListN.{length, take, drop, getD}
 use Rattle.fraction.specs.Rounding.{U}
-use Rattle.method.specs.Units.{Pair, pair, SignedPair}
+use Rattle.method.specs.Units.{Which, plain, adjusted, Pair, pair, SignedPair}
 use Rattle.method.specs.Grounds.{bandTooWide, Outcome, done, _>>=_, demand}
 use Rattle.method.specs.Sheet.{Numbers, readSheet, maturities}
 use Rattle.method.specs.Quotes.{Bootstrap, used, kept, Quote, bootstrap, quotesOf, lastYear}
 use Rattle.method.specs.Series.{gapForward, ultimateForward}
-use Rattle.method.specs.Extrapolation.{llfr, convergenceFactor, weights, extrapolate, firstTooWide}
+use Rattle.method.specs.Extrapolation.{llfr, convergenceFactor, weights, extrapolate, adjustedYears, firstRaised, firstTooWide}
 
 pub record Curve : Type 0 where
   pub month : ℕ
   pub limit : ℕ
   pub lows : List ℕ
   pub highs : List ℕ
+
+-- what may be there, or not
+pub data Held (A : Type 0) : Type 0 where
+  none : Held A
+  some : A → Held A
+
+-- of one sheet: the plain curve, and the adjusted one where the sheet has an adjustment
+pub record Curves : Type 0 where
+  pub plain : Curve
+  pub adjusted : Held Curve
+
+abbrev pub curveNamed : Which → Curves → Held Curve
+curveNamed plain cs = some (cs .plain)
+curveNamed adjusted cs = cs .adjusted
 
 -- years to 20 from the quotes, all later ones from the extrapolation
 abbrev pub smoothingYear : ℕ
@@ -66,12 +80,31 @@ extended n f quoted = do
 abbrev pub curveWith : Numbers → List Pair → Curve
 curveWith n years = record { month = n .month; limit = n .limit; lows = map (λ p. p .low) years; highs = map (λ p. p .high) years }
 
--- grounds 7 to 10
+-- grounds 7 to 10 on the plain curve
 unfoldable pub curveOf : Numbers → Outcome Curve
 curveOf n = do
   b ← bootstrap (usedQuotes n)
   years ← extended n (llfr (n .volumes) (gapForwards n b)) (take smoothingYear (b .factors))
   done (curveWith n years)
 
-unfoldable pub answer : List ℕ → Outcome Curve
-answer s = readSheet s >>= curveOf
+-- then 8 and 10 on the adjusted one: the same quotes, with the adjustment in the years to 20 and in g1
+unfoldable pub adjustedCurve : Numbers → Outcome Curve
+adjustedCurve n = do
+  b ← bootstrap (usedQuotes n)
+  quoted ← adjustedYears (n .adjustment) 1 (take smoothingYear (b .factors))
+  years ← extended n (llfr (n .volumes) (firstRaised (n .adjustment) (gapForwards n b))) quoted
+  done (curveWith n years)
+
+-- where the sheet has an adjustment
+abbrev pub adjustedIf : Bool → Numbers → Outcome (Held Curve)
+adjustedIf true n = adjustedCurve n >>= λ c. done (some c)
+adjustedIf false n = done none
+
+unfoldable pub curvesOf : Numbers → Outcome Curves
+curvesOf n = do
+  c ← curveOf n
+  a ← adjustedIf (n .adjusts) n
+  done (record { plain = c; adjusted = a })
+
+unfoldable pub answer : List ℕ → Outcome Curves
+answer s = readSheet s >>= curvesOf

@@ -1,4 +1,4 @@
--- SPECIFICATION 5: extrapolated years 21 to 150, with grounds 8 and 10.
+-- SPECIFICATION 5: extrapolated years 21 to 150 and the volatility adjustment, with grounds 8 and 10.
 use mathlib.Core.Bool.{cond}
 use mathlib.Core.List.{List, [], _∷_, map}
 use Prim.Native.Nat.{ℕ, zero, suc, _+_, _*_, _-_, _/_}
@@ -127,6 +127,31 @@ extrapolate l f (κ ∷ κs) year p = do
   _ ← demand (leb (next .high) highestFactor) (highAboveLimit year)
   later ← extrapolate l f κs (year + 1) next
   done (next ∷ later)
+
+-- ---- the volatility adjustment: years to the smoothing year, and LLFR's first forward
+
+-- hundred-thousandths, in billionths
+abbrev pub billionths : ℤ → ℤ
+billionths a = a *ℤ pos 10_000
+
+-- t times through the year's step
+unfoldable pub steps : SignedPair → ℕ → Pair → Pair
+steps f zero p = p
+steps f (suc t) p = steps f t (step f p)
+
+-- year t is taken t times, with the adjustment as the forward's low and high
+unfoldable pub adjustedYears : ℤ → ℕ → List Pair → Outcome (List Pair)
+adjustedYears a year [] = done []
+adjustedYears a year (p ∷ ps) = do
+  let next = steps (signedPair (billionths a) (billionths a)) year p
+  _ ← demand (leb (next .high) highestFactor) (highAboveLimit year)
+  later ← adjustedYears a (year + 1) ps
+  done (next ∷ later)
+
+-- g1 gains as much at both ends
+unfoldable pub firstRaised : ℤ → List SignedPair → List SignedPair
+firstRaised a [] = []
+firstRaised a (g ∷ gs) = signedPair (g .low +ℤ billionths a) (g .high +ℤ billionths a) ∷ gs
 
 -- ---- ground 10: the first year whose band passes the limit, counted on from `year`; 0 where none does
 unfoldable pub firstTooWide : ℕ → ℕ → List Pair → ℕ

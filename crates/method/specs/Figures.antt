@@ -1,4 +1,4 @@
--- SPECIFICATION 12: the figures marked *, those marked +, those of the phase-in and those of dropped quotes, each as one list.
+-- SPECIFICATION 12: the figures marked *, those marked +, those of the phase-in, of dropped quotes and of the adjustment, each as one list.
 use mathlib.Core.Path.{_≡_}
 use mathlib.Core.List.{List, [], _∷_, _++_, map}
 use Prim.Native.Nat.{ℕ, zero, suc, _+_, _-_}
@@ -6,13 +6,13 @@ use lib.IntN.{ℤ, pos, negsuc}
 use lib.ListN.{replicate, getD, take, drop}
 use Rattle.fraction.specs.Rounding.{U}
 use Rattle.method.specs.Bytes.{bytes2, bytes4}
-use Rattle.method.specs.Units.{Pair, pair, SignedPair}
+use Rattle.method.specs.Units.{Which, plain, adjusted, Pair, pair, SignedPair}
 use Rattle.method.specs.Grounds.{numberOf, placeOf, Outcome, refused, done}
 use Rattle.method.specs.Sheet.{maturities, volumeMaturities}
 use Rattle.method.specs.Quotes.{Bootstrap, bootstrap, quotesOf}
 use Rattle.method.specs.Series.{G, growthLow, growthHigh}
 use Rattle.method.specs.Extrapolation.{convergenceFactor, weights}
-use Rattle.method.specs.Curve.{Curve, answer}
+use Rattle.method.specs.Curve.{Curve, Held, none, some, Curves, curveNamed, answer}
 
 -- ---- sheets, byte by byte
 
@@ -64,6 +64,19 @@ november = sheetOf 0 novemberRates (14 ∷ 5 ∷ 40 ∷ 6 ∷ 8 ∷ []) 360 100_
 abbrev pub phased : List ℕ → ℕ → List ℕ
 phased s x = s ++ 0x06 ∷ bytes2 x
 
+-- with the adjustment's record last
+abbrev pub adjustedBy : List ℕ → ℕ → List ℕ
+adjustedBy s a = s ++ 0x07 ∷ bytes2 a
+
+-- rates and UFR of 3%
+abbrev pub threePercent : ℕ → List ℕ
+threePercent limit = sheetOf 0 (replicate 17 3_000) (replicate 5 1) 3_000 limit
+
+-- rates far below 0 that rise past 20 years, traded at 20 all but alone
+abbrev pub deepRates : List ℕ
+deepRates =
+    sheetOf 0 (replicate 13 (minus 1_900) ++ minus 1_750 ∷ minus 1_600 ∷ minus 1_400 ∷ minus 1_300 ∷ []) (1_000_000 ∷ replicate 4 1) 0 100_000
+
 -- a sheet of rising rates, with these volumes
 abbrev pub risingRates : List ℕ
 risingRates =
@@ -93,17 +106,20 @@ unfoldable pub factorsOf : Outcome Bootstrap → List Pair
 factorsOf (refused g) = []
 factorsOf (done b) = b .factors
 
--- years from `first` on, `count` of them
-unfoldable pub yearsOf : ℕ → ℕ → Outcome Curve → List Pair
-yearsOf first zero (refused g) = []
-yearsOf first (suc n) (refused g) = []
-yearsOf first zero (done c) = []
-yearsOf first (suc n) (done c) = pair (getD (c .lows) (first - 1) 0) (getD (c .highs) (first - 1) 0) ∷ yearsOf (first + 1) n (done c)
+-- years from `first` on, so many of them
+unfoldable pub yearsIn : ℕ → ℕ → Held Curve → List Pair
+yearsIn first n none = []
+yearsIn first zero (some c) = []
+yearsIn first (suc n) (some c) = pair (getD (c .lows) (first - 1) 0) (getD (c .highs) (first - 1) 0) ∷ yearsIn (first + 1) n (some c)
+
+unfoldable pub yearsOf : Which → ℕ → ℕ → Outcome Curves → List Pair
+yearsOf w first n (refused g) = []
+yearsOf w first n (done cs) = yearsIn first n (curveNamed w cs)
 
 -- number and place, 0 and 0 where the sheet is accepted
-unfoldable pub answerOf : Outcome Curve → List ℤ
+unfoldable pub answerOf : Outcome Curves → List ℤ
 answerOf (refused g) = pos (numberOf g) ∷ pos (placeOf g) ∷ []
-answerOf (done c) = pos 0 ∷ pos 0 ∷ []
+answerOf (done cs) = pos 0 ∷ pos 0 ∷ []
 
 -- ---- the figures: what the definitions compute, beside what is stated
 
@@ -131,8 +147,8 @@ marked =
     ∷ (ends (pair (growthLow 0) (growthHigh 0) ∷ []) is (U ∷ 1_000_000_001 ∷ []))
     ∷ (pos (growthHigh 1) ∷ [] is (1_000_000_008 ∷ []))
     -- the zero sheet: years 1 to 20; 21 and 22; its limit
-    ∷ (ends (yearsOf 1 20 (answer (zeroSheet 100_000))) is replicate 40 U)
-    ∷ (ends (yearsOf 21 2 (answer (zeroSheet 100_000))) is (999_999_992 ∷ 1_000_000_008 ∷ 999_999_984 ∷ 1_000_000_017 ∷ []))
+    ∷ (ends (yearsOf plain 1 20 (answer (zeroSheet 100_000))) is replicate 40 U)
+    ∷ (ends (yearsOf plain 21 2 (answer (zeroSheet 100_000))) is (999_999_992 ∷ 1_000_000_008 ∷ 999_999_984 ∷ 1_000_000_017 ∷ []))
     ∷ (answerOf (answer (zeroSheet 2_209)) is (0 ∷ 0 ∷ []))
     ∷ (answerOf (answer (zeroSheet 2_208)) is (10 ∷ 150 ∷ []))
     ∷ []
@@ -141,7 +157,7 @@ marked =
 unfoldable pub others : List Figure
 others =
     -- the zero sheet's year 150
-    (ends (yearsOf 150 1 (answer (zeroSheet 100_000))) is (999_998_960 ∷ 1_000_001_169 ∷ []))
+    (ends (yearsOf plain 150 1 (answer (zeroSheet 100_000))) is (999_998_960 ∷ 1_000_001_169 ∷ []))
     -- all rates at -2,000; 1 to 9 at -2,000 and 10 at 12,000; all at 3,000 but 12 at 12,000
     ∷ (answerOf (answer (sheetWith (replicate 17 minus2000) 100_000)) is (8 ∷ 35 ∷ []))
     ∷ (answerOf (answer (sheetWith (replicate 9 minus2000 ++ 12_000 ∷ replicate 7 0) 100_000)) is (7 ∷ 10 ∷ []))
@@ -163,15 +179,15 @@ phaseInFigures =
     ∷ (ends (take 2 (weights 14_860_000 130)) is (929_247_550 ∷ 929_247_585 ∷ 800_931_295 ∷ 800_931_331 ∷ []))
     ∷ (ends (drop 129 (weights 14_860_000 130)) is (0 ∷ 8 ∷ []))
     -- November with X 20,000: years 21, 60, 150; and year 150 without the record
-    ∷ (ends (yearsOf 21 1 (answer (phased november 20_000))) is (996_928_761 ∷ 996_928_786 ∷ []))
-    ∷ (ends (yearsOf 60 1 (answer (phased november 20_000))) is (884_663_358 ∷ 884_664_093 ∷ []))
-    ∷ (ends (yearsOf 150 1 (answer (phased november 20_000))) is (640_244_924 ∷ 640_246_623 ∷ []))
-    ∷ (ends (yearsOf 150 1 (answer november)) is (647_775_926 ∷ 647_777_646 ∷ []))
+    ∷ (ends (yearsOf plain 21 1 (answer (phased november 20_000))) is (996_928_761 ∷ 996_928_786 ∷ []))
+    ∷ (ends (yearsOf plain 60 1 (answer (phased november 20_000))) is (884_663_358 ∷ 884_664_093 ∷ []))
+    ∷ (ends (yearsOf plain 150 1 (answer (phased november 20_000))) is (640_244_924 ∷ 640_246_623 ∷ []))
+    ∷ (ends (yearsOf plain 150 1 (answer november)) is (647_775_926 ∷ 647_777_646 ∷ []))
     -- 110, 111 and 113 bytes; another kind; X beyond its range
     ∷ (answerOf (answer (november ++ 0x06 ∷ [])) is (1 ∷ 0 ∷ []))
     ∷ (answerOf (answer (november ++ 0x06 ∷ 78 ∷ [])) is (1 ∷ 0 ∷ []))
     ∷ (answerOf (answer (phased november 20_000 ++ 0 ∷ [])) is (1 ∷ 0 ∷ []))
-    ∷ (answerOf (answer (november ++ 0x07 ∷ bytes2 20_000)) is (2 ∷ 26 ∷ []))
+    ∷ (answerOf (answer (november ++ 0x05 ∷ bytes2 20_000)) is (2 ∷ 26 ∷ []))
     ∷ (answerOf (answer (phased november 9_999)) is (3 ∷ 26 ∷ []))
     ∷ (answerOf (answer (phased november 20_001)) is (3 ∷ 26 ∷ []))
     ∷ []
@@ -180,21 +196,39 @@ phaseInFigures =
 unfoldable pub droppedFigures : List Figure
 droppedFigures =
     -- year 21 with volume at 20 and 50, at 20 and 30, at 20 alone; year 150 of the first
-    (ends (yearsOf 21 1 (answer (tradedAs risingRates (1 ∷ 0 ∷ 0 ∷ 0 ∷ 1 ∷ [])))) is (584_050_196 ∷ 584_050_213 ∷ []))
-    ∷ (ends (yearsOf 21 1 (answer (tradedAs risingRates (1 ∷ 0 ∷ 1 ∷ 0 ∷ 0 ∷ [])))) is (583_661_829 ∷ 583_661_847 ∷ []))
-    ∷ (ends (yearsOf 21 1 (answer (tradedAs risingRates (1 ∷ 0 ∷ 0 ∷ 0 ∷ 0 ∷ [])))) is (583_457_516 ∷ 583_457_533 ∷ []))
-    ∷ (ends (yearsOf 150 1 (answer (tradedAs risingRates (1 ∷ 0 ∷ 0 ∷ 0 ∷ 1 ∷ [])))) is (301_117_935 ∷ 301_118_796 ∷ []))
+    (ends (yearsOf plain 21 1 (answer (tradedAs risingRates (1 ∷ 0 ∷ 0 ∷ 0 ∷ 1 ∷ [])))) is (584_050_196 ∷ 584_050_213 ∷ []))
+    ∷ (ends (yearsOf plain 21 1 (answer (tradedAs risingRates (1 ∷ 0 ∷ 1 ∷ 0 ∷ 0 ∷ [])))) is (583_661_829 ∷ 583_661_847 ∷ []))
+    ∷ (ends (yearsOf plain 21 1 (answer (tradedAs risingRates (1 ∷ 0 ∷ 0 ∷ 0 ∷ 0 ∷ [])))) is (583_457_516 ∷ 583_457_533 ∷ []))
+    ∷ (ends (yearsOf plain 150 1 (answer (tradedAs risingRates (1 ∷ 0 ∷ 0 ∷ 0 ∷ 1 ∷ [])))) is (301_117_935 ∷ 301_118_796 ∷ []))
     -- a 25-year rate of 12,000 fails 9, and where it is dropped does nothing; so does one of 50 years where 40 is dropped
     ∷ (answerOf (answer (tradedAs (highAt25 12_000) (replicate 5 1))) is (9 ∷ 25 ∷ []))
-    ∷ (ends (yearsOf 150 1 (answer (tradedAs (highAt25 12_000) (1 ∷ 0 ∷ replicate 3 1)))) is (272_517_314 ∷ 272_518_113 ∷ []))
+    ∷ (ends (yearsOf plain 150 1 (answer (tradedAs (highAt25 12_000) (1 ∷ 0 ∷ replicate 3 1)))) is (272_517_314 ∷ 272_518_113 ∷ []))
     ∷ (answerOf (answer (tradedAs (replicate 16 3_000 ++ 12_000 ∷ []) (1 ∷ 1 ∷ 1 ∷ 0 ∷ 1 ∷ []))) is (9 ∷ 50 ∷ []))
     -- rates below 0, over a gap of thirty years; all at -2,000, with it and without
-    ∷ (ends (yearsOf 20 1 (answer (tradedAs (replicate 17 (minus 500)) (1 ∷ 0 ∷ 0 ∷ 0 ∷ 1 ∷ [])))) is (1_105_448_169 ∷ 1_105_448_171 ∷ []))
-    ∷ (ends (yearsOf 150 1 (answer (tradedAs (replicate 17 (minus 500)) (1 ∷ 0 ∷ 0 ∷ 0 ∷ 1 ∷ [])))) is (768_808_537 ∷ 768_810_555 ∷ []))
+    ∷ (ends (yearsOf plain 20 1 (answer (tradedAs (replicate 17 (minus 500)) (1 ∷ 0 ∷ 0 ∷ 0 ∷ 1 ∷ [])))) is (1_105_448_169 ∷ 1_105_448_171 ∷ []))
+    ∷ (ends (yearsOf plain 150 1 (answer (tradedAs (replicate 17 (minus 500)) (1 ∷ 0 ∷ 0 ∷ 0 ∷ 1 ∷ [])))) is (768_808_537 ∷ 768_810_555 ∷ []))
     ∷ (answerOf (answer (tradedAs (replicate 17 minus2000) (1 ∷ 0 ∷ 0 ∷ 0 ∷ 1 ∷ []))) is (8 ∷ 35 ∷ []))
     ∷ (answerOf (answer (tradedAs (replicate 17 minus2000) (1 ∷ 0 ∷ 0 ∷ 0 ∷ 0 ∷ []))) is (0 ∷ 0 ∷ []))
     -- a dropped quote is tested like any other: the 25-year quote under another maturity, and beyond its range; no volume at all
     ∷ (answerOf (answer (renamed25 (tradedAs risingRates (1 ∷ 0 ∷ 0 ∷ 0 ∷ 1 ∷ [])))) is (2 ∷ 15 ∷ []))
     ∷ (answerOf (answer (tradedAs (highAt25 12_001) (1 ∷ 0 ∷ 0 ∷ 0 ∷ 1 ∷ []))) is (3 ∷ 15 ∷ []))
     ∷ (answerOf (answer (tradedAs risingRates (replicate 5 0))) is (4 ∷ 0 ∷ []))
+    ∷ []
+
+-- those of the adjustment
+unfoldable pub adjustmentFigures : List Figure
+adjustmentFigures =
+    -- 3% with an adjustment of 100: years 1, 20 and 150 of the adjusted curve; the plain one as without
+    (ends (yearsOf adjusted 1 1 (answer (adjustedBy (threePercent 100_000) 100))) is (969_903_391 ∷ 969_903_399 ∷ []))
+    ∷ (ends (yearsOf adjusted 20 1 (answer (adjustedBy (threePercent 100_000) 100))) is (542_712_164 ∷ 542_712_255 ∷ []))
+    ∷ (ends (yearsOf adjusted 150 1 (answer (adjustedBy (threePercent 100_000) 100))) is (11_610_751 ∷ 11_610_817 ∷ []))
+    -- an adjustment of 0 is a curve of its own; a sheet without has none
+    -- 8 and 10 on the adjusted curve alone
+    ∷ (answerOf (answer deepRates) is (0 ∷ 0 ∷ []))
+    ∷ (answerOf (answer (adjustedBy deepRates (minus 500))) is (8 ∷ 41 ∷ []))
+    -- another kind; beyond the range on either side; before the phase-in's record; at the range's ends, and after it
+    ∷ (answerOf (answer (zeroSheet 100_000 ++ 0x05 ∷ 0 ∷ 0 ∷ [])) is (2 ∷ 26 ∷ []))
+    ∷ (answerOf (answer (adjustedBy (zeroSheet 100_000) 501)) is (3 ∷ 26 ∷ []))
+    ∷ (answerOf (answer (adjustedBy (zeroSheet 100_000) (minus 501))) is (3 ∷ 26 ∷ []))
+    ∷ (answerOf (answer (phased (adjustedBy (zeroSheet 100_000) 0) 10_000)) is (2 ∷ 26 ∷ []))
     ∷ []

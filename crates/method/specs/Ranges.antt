@@ -4,7 +4,7 @@ use mathlib.Core.Bool.{Bool, cond, _&&_}
 use mathlib.Core.List.{List, [], _∷_}
 use Prim.Native.Nat.{ℕ, _+_, _-_, _≤_, _<_}
 use lib.Dec.{eqb, leb, ltb}
-use lib.IntN.{ℤ, pos}
+use lib.IntN.{ℤ, pos, natAbs}
 use lib.ListN.{length, getD}
 use lib.Signed.{mag}
 use Rattle.fraction.specs.Fraction.{posPart, negPart}
@@ -34,6 +34,7 @@ pub record NumbersInRange (n : Numbers) : Type 0 where
   pub limit-most : n .limit ≤ 100_000
   pub phase-in-least : 10_000 ≤ n .phaseIn
   pub phase-in-most : n .phaseIn ≤ 20_000
+  pub adjustment-size : natAbs (n .adjustment) ≤ 500
 
 -- ---- factors
 
@@ -66,9 +67,13 @@ climbs n g (m ∷ ms) = ltb n m && (leb (m - n) 30 && climbs m (gapsWith (m - n)
 
 -- ---- logarithms and growth, in billionths
 
--- the ends of every logarithm and forward: -ln 0.8 is 223,143,551.3
+-- the ends of every logarithm: -ln 0.8 is 223,143,551.3
+abbrev pub logarithmBound : ℕ
+logarithmBound = 224_000_000
+
+-- and of every forward: one of them with an adjustment
 abbrev pub forwardBound : ℕ
-forwardBound = 224_000_000
+forwardBound = 229_000_000
 
 -- the exponents of E, above every forward: the terms past t7 come to less than a billionth
 abbrev pub growthRange : ℕ

@@ -1,7 +1,7 @@
 -- SPECIFICATION 2: the sheet, with grounds 1 to 4.
-use mathlib.Core.Bool.{Bool, true, cond, _&&_}
+use mathlib.Core.Bool.{Bool, true, cond, not, _&&_, _||_}
 use mathlib.Core.List.{List, [], _∷_, _++_, map}
-use Prim.Native.Nat.{ℕ, suc, _+_}
+use Prim.Native.Nat.{ℕ, suc, _+_, _-_}
 use lib.Dec.{eqb, ltb}
 use lib.IntN.{ℤ, pos, negsuc, natAbs, _-ℤ_}
 use lib.ListN.{length, take, drop, getD}
@@ -18,6 +18,7 @@ pub data Kind : Type 0 where
   ultimate : Kind
   limit : Kind
   phaseIn : Kind
+  adjustment : Kind
 
 abbrev pub kindByte : Kind → ℕ
 kindByte month = 0x01
@@ -26,6 +27,7 @@ kindByte volume = 0x03
 kindByte ultimate = 0x04
 kindByte limit = 0x05
 kindByte phaseIn = 0x06
+kindByte adjustment = 0x07
 
 -- the maturity's bytes and the number's: together the body
 abbrev pub maturityBytes : Kind → ℕ
@@ -35,6 +37,7 @@ maturityBytes volume = 1
 maturityBytes ultimate = 0
 maturityBytes limit = 0
 maturityBytes phaseIn = 0
+maturityBytes adjustment = 0
 
 abbrev pub numberBytes : Kind → ℕ
 numberBytes month = 2
@@ -43,6 +46,7 @@ numberBytes volume = 4
 numberBytes ultimate = 2
 numberBytes limit = 4
 numberBytes phaseIn = 2
+numberBytes adjustment = 2
 
 abbrev pub bodyLength : Kind → ℕ
 bodyLength k = maturityBytes k + numberBytes k
@@ -54,6 +58,7 @@ lowest volume = pos 0
 lowest ultimate = pos 0
 lowest limit = pos 1
 lowest phaseIn = pos 10_000
+lowest adjustment = negsuc 499
 
 abbrev pub highest : Kind → ℤ
 highest month = pos 2_399
@@ -62,6 +67,7 @@ highest volume = pos 1_000_000
 highest ultimate = pos 10_000
 highest limit = pos 100_000
 highest phaseIn = pos 20_000
+highest adjustment = pos 500
 
 unfoldable pub maturities : List ℕ
 maturities = 1 ∷ 2 ∷ 3 ∷ 4 ∷ 5 ∷ 6 ∷ 7 ∷ 8 ∷ 9 ∷ 10 ∷ 12 ∷ 15 ∷ 20 ∷ 25 ∷ 30 ∷ 40 ∷ 50 ∷ []
@@ -92,16 +98,27 @@ bytesOf es = total (map (λ e. 1 + bodyLength (e .kind)) es)
 
 -- ---- the layout: which records a sheet has
 
--- whether the phase-in's record stands last
+-- whether the phase-in's record follows the 25, and whether the adjustment's stands last
 pub record Layout : Type 0 where
   pub phased : Bool
+  pub adjusts : Bool
 
--- chosen by the sheet's bytes: past the 25 records more can only be the phase-in's
+-- a record that stands only in some sheets
+abbrev pub optional : Bool → Kind → List Entry
+optional stands k = cond stands (entry k 0 ∷ []) []
+
+-- chosen by the sheet's bytes: past the 25 records stands one more, the adjustment's where the kind byte there is its own and else the
+-- phase-in's; past that one stand both
 unfoldable pub layoutOf : List ℕ → Layout
-layoutOf s = record { phased = ltb (bytesOf firstEntries) (length s) }
+layoutOf s =
+    let first = bytesOf firstEntries in
+    let more = ltb first (length s) in
+    let both = ltb (first + 1 + bodyLength phaseIn) (length s) in
+    let named = eqb (getD s first 0) (kindByte adjustment) in
+    record { phased = more && (both || not named); adjusts = more && (both || named) }
 
 unfoldable pub entriesOf : Layout → List Entry
-entriesOf l = firstEntries ++ cond (l .phased) (entry phaseIn 0 ∷ []) []
+entriesOf l = firstEntries ++ (optional (l .phased) phaseIn ++ optional (l .adjusts) adjustment)
 
 unfoldable pub sizeOf : Layout → ℕ
 sizeOf l = bytesOf (entriesOf l)
@@ -147,6 +164,7 @@ reading volume n = pos n
 reading ultimate n = pos n
 reading limit n = pos n
 reading phaseIn n = pos n
+reading adjustment n = twosComplement16 n
 
 abbrev pub numberOfRecord : List ℕ → Slot → ℤ
 numberOfRecord s t = reading (t .kind) (bigEndian 0 (drop (maturityBytes (t .kind)) (bodyOf s t)))
@@ -160,6 +178,7 @@ maturityRight volume m body = eqb (getD body 0 0) m
 maturityRight ultimate m body = true
 maturityRight limit m body = true
 maturityRight phaseIn m body = true
+maturityRight adjustment m body = true
 
 abbrev pub rightRecord : List ℕ → Slot → Bool
 rightRecord s t = eqb (getD s (t .start) 0) (kindByte (t .kind)) && maturityRight (t .kind) (t .maturity) (bodyOf s t)
@@ -180,8 +199,10 @@ pub record Numbers : Type 0 where
   pub ultimate : ℕ
   pub limit : ℕ
   pub phaseIn : ℕ
+  pub adjusts : Bool
+  pub adjustment : ℤ
 
--- a sheet without the phase-in's record counts as one with 10,000
+-- a sheet without the phase-in's record counts as one with 10,000; the adjustment's stands last
 abbrev pub numbersOf : Layout → List ℤ → Numbers
 numbersOf l zs =
     record {
@@ -191,6 +212,8 @@ numbersOf l zs =
       ultimate = natAbs (getD zs 23 (pos 0));
       limit = natAbs (getD zs 24 (pos 0));
       phaseIn = cond (l .phased) (natAbs (getD zs 25 (pos 0))) 10_000;
+      adjusts = l .adjusts;
+      adjustment = cond (l .adjusts) (getD zs (length zs - 1) (pos 0)) (pos 0);
     }
 
 -- the numbers of all records

@@ -1,5 +1,5 @@
--- SPECIFICATION 6: the true curve of order n. No rounding, worked from the sheet's numbers alone, still in billionths. Written
--- from the method paper and the phase-in paper, beside the computed curve and not by it; their names stand in the comments.
+-- SPECIFICATION 6: the true curves of order n. No rounding, worked from the sheet's numbers alone, still in billionths. Written
+-- from the method paper and the phase-in paper, beside the computed curves and not by them; their names stand in the comments.
 use mathlib.Core.Bool.{Bool, cond, _||_}
 use mathlib.Core.List.{List, [], _∷_, _++_, map}
 use Prim.Native.Nat.{ℕ, zero, suc, _+_, _*_, _-_, _^_}
@@ -7,6 +7,7 @@ use lib.Dec.{eqb, leb, ltb}
 use lib.IntN.{ℤ, pos}
 use lib.ListN.{length, take, drop, getD}
 use Rattle.fraction.specs.Fraction.{ℚ, leℚ, natℚ, intℚ, negℚ, _+ℚ_, _-ℚ_, _*ℚ_, _÷_, recip, powℚ, sumℚ}
+use Rattle.method.specs.Units.{Which, plain, adjusted}
 use Rattle.method.specs.Sheet.{Numbers, maturities, volumeMaturities}
 
 abbrev pub billion : ℚ
@@ -197,16 +198,45 @@ toLastYear n s f quoted =
     let ultimate = negℚ (minusLog n (billion *ℚ (natℚ 1 +ℚ natℚ (s .ultimate) ÷ natℚ 100_000))) in
     quoted ++ extrapolated n α ultimate f 1 (150 - length quoted) (lastFactor quoted)
 
--- ---- the curve
+-- ---- the plain curve
 
-unfoldable pub trueCurve : ℕ → Numbers → List ℚ
-trueCurve n s =
-    let ms = beside (isUsed (s .volumes)) maturities maturities in
-    let l = liquid n ms (beside (isUsed (s .volumes)) maturities (s .rates)) in
-    -- past ten years each used maturity ends a gap
-    let forwards = map (λ m. minusLog n (yearlyTo m (drop 10 ms) (l .yearly))) volumeMaturities in
-    toLastYear n s (lastLiquidForward (s .volumes) forwards) (take 20 (l .factors))
+-- the maturities that are used, and the liquid part on their rates
+unfoldable pub trueMaturities : Numbers → List ℕ
+trueMaturities s = beside (isUsed (s .volumes)) maturities maturities
 
--- the true factor of order n of a year, from 1
-unfoldable pub trueFactor : ℕ → Numbers → ℕ → ℚ
-trueFactor n s t = getD (trueCurve n s) (t - 1) (natℚ 0)
+unfoldable pub trueLiquid : ℕ → Numbers → Liquid
+trueLiquid n s = liquid n (trueMaturities s) (beside (isUsed (s .volumes)) maturities (s .rates))
+
+-- f of the years up to each maturity of a volume; past ten years each used maturity ends a gap
+unfoldable pub trueForwards : ℕ → Numbers → List ℚ
+trueForwards n s = map (λ m. minusLog n (yearlyTo m (drop 10 (trueMaturities s)) (trueLiquid n s .yearly))) volumeMaturities
+
+unfoldable pub truePlain : ℕ → Numbers → List ℚ
+truePlain n s = toLastYear n s (lastLiquidForward (s .volumes) (trueForwards n s)) (take 20 (trueLiquid n s .factors))
+
+-- ---- the adjusted curve: VA is added to the forwards up to 20 years and, in LLFR, to the 15-20 forward alone; not to UFR
+
+-- so year t falls by e^-VA, t times
+unfoldable pub loweredFrom : ℕ → ℚ → List ℚ → List ℚ
+loweredFrom t e [] = []
+loweredFrom t e (x ∷ xs) = x *ℚ powℚ e t ∷ loweredFrom (suc t) e xs
+
+unfoldable pub withVA : ℚ → List ℚ → List ℚ
+withVA v [] = []
+withVA v (f ∷ fs) = (f +ℚ v) ∷ fs
+
+unfoldable pub trueAdjusted : ℕ → Numbers → List ℚ
+trueAdjusted n s =
+    let v = intℚ (s .adjustment) ÷ natℚ 100_000 in
+    let f = lastLiquidForward (s .volumes) (withVA (billion *ℚ v) (trueForwards n s)) in
+    toLastYear n s f (loweredFrom 1 (exp n (negℚ v)) (take 20 (trueLiquid n s .factors)))
+
+-- ---- the curve that is named
+
+unfoldable pub trueCurve : Which → ℕ → Numbers → List ℚ
+trueCurve plain n s = truePlain n s
+trueCurve adjusted n s = trueAdjusted n s
+
+-- its true factor of order n of a year, from 1
+unfoldable pub trueFactor : Which → ℕ → Numbers → ℕ → ℚ
+trueFactor w n s t = getD (trueCurve w n s) (t - 1) (natℚ 0)

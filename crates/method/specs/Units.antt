@@ -13,6 +13,11 @@ rateUnit = 100_000
 abbrev pub parValue : ℕ
 parValue = rateUnit * U
 
+-- which of a sheet's two curves
+pub data Which : Type 0 where
+  plain : Which
+  adjusted : Which
+
 -- a low and a high, of factors and yearly factors
 pub record Pair : Type 0 where
   pub low : ℕ
