@@ -2,40 +2,41 @@
 use mathlib.Core.Path.{_≡_, refl, ap, sym, subst⁻¹, _∙_}
 use mathlib.Core.Bool.{Bool}
 use mathlib.Core.List.{List}
-use Prim.Native.Nat.{ℕ, _+_, _≤_, _<_}
+use Prim.Native.Nat.{ℕ, _≤_, _<_}
 use native.Mathlib.Omega.{arith}
+use lib.IntN.{ℤ}
 use lib.ListN.{length, take, drop, getD, replicate, length-take, length-drop, List·getD-append}
 use lib.Seq.{take-at, take-take, length-take-le, getD-take}
 use lib.Signed.{_≤ℤ_}
 use Rattle.fraction.specs.Rounding.{U}
-use Rattle.method.specs.Units.{Pair, pair, pairsOf, SignedPair}
+use Rattle.method.specs.Units.{Which, plain, adjusted, pair, pairsOf, SignedPair}
 use Rattle.method.specs.Sheet.{Numbers, volumeMaturities}
 use Rattle.method.specs.Quotes.{lastYear}
-use Rattle.method.specs.Series.{ultimateForward}
-use Rattle.method.specs.Extrapolation.{llfr, weights, extrapolate}
-use Rattle.method.specs.Curve.{smoothingYear, smoothingIndex, usedBy, spread, factorOf, gapForwards}
-use Rattle.method.specs.Ranges.{forwardBound, Factor, YearlyFactor}
+use Rattle.method.specs.Extrapolation.{llfr, firstRaised}
+use Rattle.method.specs.Curve.{smoothingYear, smoothingIndex, usedBy, spread}
+use Rattle.method.specs.Ranges.{logarithmBound, forwardBound, Factor, YearlyFactor}
 use Rattle.method.proofs.QuotesBounds.{bootstrap-bounded}
 use Rattle.method.proofs.Used.{to-smoothing-year, as-many-marks, spread-length, spread-pairs}
 use Rattle.method.proofs.Enclosure as method
-use Rattle.method.proofs.Zips.{zip-take, zip-drop, pairs-last, pairs-each}
+use Rattle.method.proofs.Zips.{zip-take, zip-drop, zip-length, pairs-last, pairs-each}
 use Rattle.rounding.specs.Pairs.{asSignedPair, SizeAtMost}
 use Rattle.rounding.specs.declared.SignedPair as code
-use Rattle.grounds.specs.Verdicts.{asOutcome}
 use Rattle.bootstrap.specs.declared.Liquid.{Liquid}
 use Rattle.bootstrap.specs.Liquids.{asBootstrap}
-use Rattle.bootstrap.proofs.Soundness.{count-is, same-length}
+use Rattle.bootstrap.proofs.Soundness.{count-is}
+use Rattle.extrapolation.specs.declared.Forwards.{Forwards}
 use Rattle.extrapolation.specs.declared.Years.{Years}
 use Rattle.extrapolation.specs.declared.Extended.{Extended}
-use Rattle.extrapolation.specs.Extrapolated.{asYears, factorAt, InRange, Usable, Ahead, Kept}
+use Rattle.extrapolation.specs.Extrapolated.{asForwards, asYears, asLater, factorAt, ForwardSizes, InRange, Usable, Ahead, Extrapolates, Kept}
 use Rattle.convergence.specs.declared.Weights.{Weights}
 use Rattle.convergence.specs.Weights.{WeightsOf}
-use Rattle.curve.specs.Curves.{firstYears, WorkedQuotes, Extends}
+use Rattle.curve.specs.Curves.{firstYears, WorkedQuotes, Extending, Ready}
+use Rattle.curve.proofs.Laws.{laterYears}
 
 -- ---- the quotes were worked: at least 20 factors, and a yearly factor for each gap
 
 module _ {n : Numbers} {q : Liquid} (w : WorkedQuotes n q) where
-  least : 20 ≤ q .count
+  pub least : 20 ≤ q .count
   least = rw (← count-is (w .sound)) (to-smoothing-year n (w .worked) (w .numbers .rate-count))
 
   -- the years to 20 are the first of both arrays
@@ -74,42 +75,49 @@ module _ {n : Numbers} {q : Liquid} (w : WorkedQuotes n q) where
     first-take : (xs : List ℕ) → length xs ≡ 50 → take smoothingYear (firstYears xs) ≡ take smoothingYear xs
     first-take xs long = take-at (take smoothingYear xs) (replicate 130 0) smoothingYear (length-take-le smoothingYear xs (omega arith))
 
-    first-last : (xs : List ℕ) → length xs ≡ 50 → getD (firstYears xs) 19 0 ≡ getD xs 19 0
-    first-last xs long =
-        List·getD-append (take smoothingYear xs) (replicate 130 0) 0 19 (omega (arith, length-take-le smoothingYear xs (omega arith)))
-        ∙ getD-take smoothingYear xs 19 0 (omega arith)
+    first-at : (xs : List ℕ) → length xs ≡ 50 → (i : ℕ) → i < 20 → getD (firstYears xs) i 0 ≡ getD xs i 0
+    first-at xs long i h =
+        List·getD-append (take smoothingYear xs) (replicate 130 0) 0 i (omega (arith, length-take-le smoothingYear xs (omega arith)))
+        ∙ getD-take smoothingYear xs i 0 h
 
-    at-20 : factorAt y 19 ≡ pair (getD (q .lows) 19 0) (getD (q .highs) 19 0)
-    at-20 = rw (el, eh, first-last (q .lows) (w .sound .long-lows), first-last (q .highs) (w .sound .long-highs))
+    -- they are the quotes' own
+    pub first-quoted : take smoothingYear (asYears y) ≡ take smoothingYear (asBootstrap q .factors)
+    first-quoted =
+        let lows = first-take (q .lows) (w .sound .long-lows) in
+        let highs = first-take (q .highs) (w .sound .long-highs) in
+        zip-take pair smoothingYear (y .lows) (y .highs) ∙ rw (el, eh, lows, highs) (sym quoted-are)
 
-    pub in-range-20 : InRange (factorAt y 19)
-    in-range-20 =
+    pub first-in-range : (i : ℕ) → i < 20 → InRange (factorAt y i)
+    first-in-range i h =
         let lows = take (q .count) (q .lows) in
         let highs = take (q .count) (q .highs) in
         let long : length lows ≡ q .count = length-take-le (q .count) (q .lows) (omega (arith, w .sound .within, w .sound .long-lows)) in
         let same = long ∙ sym (length-take-le (q .count) (q .highs) (omega (arith, w .sound .within, w .sound .long-highs))) in
-        let f = pairs-each lows highs same (bootstrap-bounded _ (w .worked) .factors) 19 (omega (arith, long, least)) in
-        let g : Factor (pair (getD (q .lows) 19 0) (getD (q .highs) 19 0)) =
-        rw (getD-take (q .count) (q .lows) 19 0 (omega (arith, least)), getD-take (q .count) (q .highs) 19 0 (omega (arith, least))) at f in
-        rw at-20 (record { ordered = g .ordered; at-most = g .greatest })
+        let f = pairs-each lows highs same (bootstrap-bounded _ (w .worked) .factors) i (omega (arith, long, least)) in
+        let g : Factor (pair (getD (q .lows) i 0) (getD (q .highs) i 0)) =
+        rw (getD-take (q .count) (q .lows) i 0 (omega (arith, least)), getD-take (q .count) (q .highs) i 0 (omega (arith, least))) at f in
+        rw (el, eh, first-at (q .lows) (w .sound .long-lows) i h, first-at (q .highs) (w .sound .long-highs) i h)
+        (record { ordered = g .ordered; at-most = g .greatest })
 
-    last-quoted : lastYear (take smoothingYear (asBootstrap q .factors)) ≡ factorAt y 19
-    last-quoted =
-        rw quoted-are
-        (pairs-last (q .lows) (q .highs) (same-length (w .sound)) 19 (omega (arith, w .sound .long-lows)) ∙ sym at-20)
+-- ---- the last of the years to 20, on two arrays
 
-    pub extends : (r : Extended) {l f : SignedPair} {κs : List Pair} → l ≡ ultimateForward (n .ultimate) →
-        f ≡ llfr (n .volumes) (gapForwards n (asBootstrap q)) → κs ≡ weights (factorOf n) 130 →
-        asOutcome (r .verdict) (drop 20 (asYears (r .years))) ≡ extrapolate l f κs (smoothingYear + 1) (factorAt y 19) → Kept 20 y r → Extends n q r
-    extends r ul uf uκ o k =
-        record {
-          quoted =
-              let lows = first-take (q .lows) (w .sound .long-lows) in
-              let highs = first-take (q .highs) (w .sound .long-highs) in
-              zip-take pair smoothingYear (r .years .lows) (r .years .highs)
-              ∙ rw (k .quoted-lows, k .quoted-highs, el, eh, lows, highs) (sym quoted-are);
-          later = o ∙ rw (ul, uf, uκ, last-quoted);
-        }
+pub last-of-20 : (y : Years) → length (y .lows) ≡ 150 → length (y .highs) ≡ 150 → lastYear (take smoothingYear (asYears y)) ≡ factorAt y 19
+last-of-20 y hl hh =
+    ap lastYear (zip-take pair smoothingYear (y .lows) (y .highs)) ∙ pairs-last (y .lows) (y .highs) (omega arith) 19 (omega arith)
+
+pub twenty : (y : Years) → length (y .lows) ≡ 150 → length (y .highs) ≡ 150 → length (take smoothingYear (asYears y)) ≡ smoothingYear
+twenty y hl hh = rw (length-take, zip-length pair (y .lows) (y .highs) (omega arith)) (omega arith)
+
+-- the quoted years stay
+pub kept-20 : (y : Years) (r : Extended) → Kept 20 y r → take smoothingYear (asYears (r .years)) ≡ take smoothingYear (asYears y)
+kept-20 y r k =
+    zip-take pair smoothingYear (r .years .lows) (r .years .highs)
+    ∙ rw (k .quoted-lows, k .quoted-highs) (sym (zip-take pair smoothingYear (y .lows) (y .highs)))
+
+-- ---- a wider bound
+
+pub wider : (g : Forwards) → ForwardSizes logarithmBound g → ForwardSizes forwardBound g
+wider g s = record { low-sizes = λ i. omega (arith, s .low-sizes i); high-sizes = λ i. omega (arith, s .high-sizes i) }
 
 -- ---- a forward by its definition
 
@@ -126,3 +134,25 @@ weights-ahead a r w lows highs =
       as-many = omega arith;
       ranges = λ i h. let weight = w .weigh i (omega arith) in record { ordered = weight .ordered; at-most-U = weight .at-most-U };
     }
+
+-- ---- what is extended, by its promises
+
+-- g1 to g5 as a curve takes them
+abbrev pub forwardsOf : Which → ℤ → List SignedPair → List SignedPair
+forwardsOf plain a gs = gs
+forwardsOf adjusted a gs = firstRaised a gs
+
+module _ {n : Numbers} {l : code.SignedPair} {g : Forwards} {klows khighs : List ℕ} {years : Years} (r : Ready n l g klows khighs years) where
+  ordered : (w : Which) → let f = llfr (n .volumes) (forwardsOf w (n .adjustment) (asForwards g)) in f .low ≤ℤ f .high
+  ordered plain = rw (r .forwards) (method.llfr-ordered n (method.usable n (r .numbers)) (r .worked) plain)
+  ordered adjusted = rw (r .forwards) (method.llfr-ordered n (method.usable n (r .numbers)) (r .worked) adjusted)
+
+  -- of either curve
+  pub liquid-usable : (w : Which) (f : code.SignedPair) → asSignedPair f ≡ llfr (n .volumes) (forwardsOf w (n .adjustment) (asForwards g)) →
+      SizeAtMost forwardBound f → Usable f
+  liquid-usable w f e b = usable f e b (ordered w)
+
+pub later-is : {n : Numbers} {l f : code.SignedPair} {klows khighs : List ℕ} (y : Years) → Extending n l f klows khighs y →
+    (hl : length (y .lows) ≡ 150) (hh : length (y .highs) ≡ 150) (r : Extended) → Extrapolates l f klows khighs 20 y r →
+    asLater 20 r ≡ laterYears n (asSignedPair f) (take smoothingYear (asYears y)) (twenty y hl hh)
+later-is y e hl hh r o = o ∙ rw (e .onward .ultimate, e .onward .pairs, last-of-20 y hl hh)

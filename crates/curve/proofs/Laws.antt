@@ -1,21 +1,27 @@
--- What `curveOf` comes to, test by test, with the years in two arrays.
-use mathlib.Core.Path.{_≡_, refl, _∙_}
+-- What `curvesOf` comes to, test by test, with the years in two arrays.
+use mathlib.Core.Path.{_≡_, refl, ap, _∙_}
+use mathlib.Core.Bool.{Bool, true, false}
 use mathlib.Core.List.{List}
-use Prim.Native.Nat.{ℕ}
+use Prim.Native.Nat.{ℕ, _+_}
 use lib.Dec.{eqb}
 use lib.ListN.{length, take, drop, take-append-drop}
 use borrow.Author.Tests.{eq-eqb, ne-eqb}
-use Rattle.method.specs.Units.{pair, pairsOf}
-use Rattle.method.specs.Grounds.{Ground, bandTooWide, refused, done, _>>=_, demand}
+use Rattle.method.specs.Units.{Pair, pair, pairsOf, SignedPair}
+use Rattle.method.specs.Grounds.{Ground, bandTooWide, Outcome, refused, done, _>>=_, demand}
 use Rattle.method.specs.Sheet.{Numbers}
-use Rattle.method.specs.Quotes.{Bootstrap, bootstrap}
-use Rattle.method.specs.Extrapolation.{firstTooWide}
+use Rattle.method.specs.Quotes.{Bootstrap, bootstrap, lastYear}
+use Rattle.method.specs.Series.{ultimateForward}
+use Rattle.method.specs.Extrapolation.{llfr, weights, extrapolate, adjustedYears, firstRaised, firstTooWide}
 use Rattle.method.specs.Curve as method
-use Rattle.method.specs.Curve.{Curve, smoothingYear, usedQuotes, withinLimit, extended, curveOf}
+use Rattle.method.specs.Curve.{Curve, none, some, Curves, smoothingYear, usedQuotes, gapForwards, factorOf}
+use Rattle.method.specs.Curve.{withinLimit, extended, curveOf, adjustedCurve, curvesOf}
 use Rattle.method.proofs.Outcome.{bind-assoc}
-use Rattle.method.proofs.Used.{quoted-length}
 use Rattle.method.proofs.Zips.{zip-left, zip-right}
-use Rattle.curve.specs.Curves.{laterYears, banded}
+use Rattle.grounds.specs.Verdicts.{asOutcome, resultOr}
+use Rattle.grounds.specs.declared.Verdict.the-variants.{Passed}
+use Rattle.curve.specs.declared.Curve as code
+use Rattle.curve.specs.declared.Worked.{Worked}
+use Rattle.curve.specs.Curves.{asCurve, asHeld, asCurves, noCurves, banded, curveFrom, adjustedFrom, adjustedIf, curvesFrom}
 
 -- the curve of two arrays, under a sheet's month and limit
 abbrev pub curveWith : Numbers → List ℕ → List ℕ → Curve
@@ -33,28 +39,83 @@ module _ (c : Curve) where
   pub banded-refused : (widest ≡ 0 → ⊥) → banded c ≡ refused (bandTooWide widest)
   banded-refused n = rw (ne-eqb widest 0 n)
 
--- ---- grounds 7 to 10
+-- ---- one curve, from the years to 20 and LLFR
+
+module _ (n : Numbers) (f : SignedPair) (quoted : List Pair) (twenty : length quoted ≡ smoothingYear) where
+  abbrev pub laterYears : Outcome (List Pair)
+  laterYears = extrapolate (ultimateForward (n .ultimate)) f (weights (factorOf n) 130) (smoothingYear + 1) (lastYear quoted)
+
+  pub later-refused : {g : Ground} → laterYears ≡ refused g → curveFrom n f quoted ≡ refused g
+  unfolding extended
+  later-refused e = rw (twenty, e)
+
+  pub years-banded : (lows highs : List ℕ) → length lows ≡ length highs → take smoothingYear (pairsOf lows highs) ≡ quoted →
+      laterYears ≡ done (drop smoothingYear (pairsOf lows highs)) → curveFrom n f quoted ≡ banded (curveWith n lows highs)
+  unfolding extended withinLimit
+  years-banded lows highs same first later =
+      let low = zip-left pair (λ p. p .low) (λ l h. refl) lows highs same in
+      let high = zip-right pair (λ p. p .high) (λ l h. refl) lows highs same in
+      let wide = firstTooWide (n .limit) 1 (pairsOf lows highs) in
+      let made = bind-assoc (demand (eqb wide 0) (bandTooWide wide)) (λ _. done (pairsOf lows highs)) (λ years. done (method.curveWith n years)) in
+      rw (twenty, later, ← first, take-append-drop smoothingYear (pairsOf lows highs)) (made ∙ rw (low, high))
+
+-- ---- the adjusted one, from the years that are adjusted
+
+module _ (n : Numbers) (gs : List SignedPair) (quoted : List Pair) where
+  pub years-refused : {g : Ground} → adjustedYears (n .adjustment) 1 quoted ≡ refused g → adjustedFrom n gs quoted ≡ refused g
+  years-refused e = rw e
+
+  pub years-adjusted : {lowered : List Pair} → adjustedYears (n .adjustment) 1 quoted ≡ done lowered →
+      adjustedFrom n gs quoted ≡ curveFrom n (llfr (n .volumes) (firstRaised (n .adjustment) gs)) lowered
+  years-adjusted e = rw e
+
+-- ---- both
 
 module _ (n : Numbers) where
-  pub quotes-refused : {g : Ground} → bootstrap (usedQuotes n) ≡ refused g → curveOf n ≡ refused g
-  unfolding curveOf
+  pub quotes-refused : {g : Ground} → bootstrap (usedQuotes n) ≡ refused g → curvesOf n ≡ refused g
+  unfolding curvesOf curveOf
   quotes-refused e = rw e
 
-  module _ (b : Bootstrap) (d : bootstrap (usedQuotes n) ≡ done b) (seventeen : length (n .rates) ≡ 17) where
-    -- the quoted years are 20
-    twenty : length (take smoothingYear (b .factors)) ≡ smoothingYear
-    twenty = quoted-length n d seventeen
+  -- the bootstrap is the same for both
+  pub curves-from : (b : Bootstrap) → bootstrap (usedQuotes n) ≡ done b → curvesOf n ≡ curvesFrom n (gapForwards n b) (take smoothingYear (b .factors))
+  unfolding curvesOf curveOf adjustedCurve
+  curves-from b d = rw (d, same (n .adjusts))
+    where
+      same : (t : Bool) → method.adjustedIf t n ≡ adjustedIf t n (gapForwards n b) (take smoothingYear (b .factors))
+      same true = rw d
+      same false = refl
 
-    pub later-refused : {g : Ground} → laterYears n b ≡ refused g → curveOf n ≡ refused g
-    unfolding curveOf extended
-    later-refused e = rw (d, twenty, e)
+  module _ (gs : List SignedPair) (quoted : List Pair) where
+    abbrev plainFrom : Outcome Curve
+    plainFrom = curveFrom n (llfr (n .volumes) gs) quoted
 
-    pub years-banded : (lows highs : List ℕ) → length lows ≡ length highs → take smoothingYear (pairsOf lows highs) ≡ take smoothingYear (b .factors) →
-        laterYears n b ≡ done (drop smoothingYear (pairsOf lows highs)) → curveOf n ≡ banded (curveWith n lows highs)
-    unfolding curveOf extended withinLimit
-    years-banded lows highs same quoted later =
-        let first = zip-left pair (λ p. p .low) (λ l h. refl) lows highs same in
-        let second = zip-right pair (λ p. p .high) (λ l h. refl) lows highs same in
-        let wide = firstTooWide (n .limit) 1 (pairsOf lows highs) in
-        let made = bind-assoc (demand (eqb wide 0) (bandTooWide wide)) (λ _. done (pairsOf lows highs)) (λ years. done (method.curveWith n years)) in
-        rw (d, twenty, later, ← quoted, take-append-drop smoothingYear (pairsOf lows highs)) (made ∙ rw (first, second))
+    -- what the adjusted curve adds to a plain one
+    abbrev beside : Curve → Outcome Curve → Outcome Curves
+    beside c o = (o >>= λ a. done (some a)) >>= λ k. done (record { plain = c; adjusted = k })
+
+    pub plain-refused : {g : Ground} → plainFrom ≡ refused g → curvesFrom n gs quoted ≡ refused g
+    plain-refused e = rw e
+
+    pub plain-alone : {c : Curve} → plainFrom ≡ done c → n .adjusts ≡ false → curvesFrom n gs quoted ≡ done (record { plain = c; adjusted = none })
+    plain-alone e t = rw (e, t)
+
+    with-adjusted : (c : Curve) → plainFrom ≡ done c → n .adjusts ≡ true → curvesFrom n gs quoted ≡ beside c (adjustedFrom n gs quoted)
+    with-adjusted c e t =
+        let after-plain : Bool → Outcome Curves = λ b. adjustedIf b n gs quoted >>= λ k. done (record { plain = c; adjusted = k }) in
+        let plain : curvesFrom n gs quoted ≡ after-plain (n .adjusts) = rw e in
+        plain ∙ ap after-plain t
+
+    pub adjusted-refused : (c : Curve) {g : Ground} → plainFrom ≡ done c → n .adjusts ≡ true → adjustedFrom n gs quoted ≡ refused g →
+        curvesFrom n gs quoted ≡ refused g
+    adjusted-refused c e t a = with-adjusted c e t ∙ ap (beside c) a
+
+    pub both-done : (c : Curve) {a : Curve} → plainFrom ≡ done c → n .adjusts ≡ true → adjustedFrom n gs quoted ≡ done a →
+        curvesFrom n gs quoted ≡ done (record { plain = c; adjusted = some a })
+    both-done c e t a = with-adjusted c e t ∙ ap (beside c) a
+
+-- ---- curves that passed, handed back
+
+pub passed-is : (r : Worked) {c a : code.Curve} {t : Bool} {o : Outcome Curves} → r .verdict ≡ Passed → r .curves .plain ≡ c → r .curves .adjusts ≡ t →
+    r .curves .adjusted ≡ a → o ≡ done (record { plain = asCurve c; adjusted = asHeld t a }) →
+    (asOutcome (r .verdict) (asCurves (r .curves)) ≡ o) × (asCurves (r .curves) ≡ resultOr noCurves o)
+passed-is r v p t a made = rw (v, p, t, a, made) (refl, refl)

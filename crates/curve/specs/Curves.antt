@@ -1,54 +1,73 @@
--- The declared curve as the method's, and what the functions between the quotes and the curve cite of `curveOf`.
+-- The declared curves as the method's, and what the functions between the quotes and the curves cite of `curvesOf`.
 use mathlib.Core.Path.{_≡_}
+use mathlib.Core.Bool.{Bool, true, false}
 use mathlib.Core.List.{List, _++_}
-use Prim.Native.Nat.{ℕ, _+_}
+use Prim.Native.Nat.{ℕ, _<_}
 use lib.Dec.{eqb}
-use lib.ListN.{take, drop, replicate}
-use Rattle.method.specs.Units.{Pair, pairsOf}
+use lib.ListN.{take, replicate}
+use Rattle.method.specs.Units.{Pair, SignedPair, pairsOf}
 use Rattle.method.specs.Grounds.{bandTooWide, Outcome, done, _>>=_, demand}
 use Rattle.method.specs.Sheet.{Numbers}
-use Rattle.method.specs.Quotes.{Bootstrap, bootstrap, lastYear}
+use Rattle.method.specs.Quotes.{Bootstrap, bootstrap}
 use Rattle.method.specs.Series.{ultimateForward}
-use Rattle.method.specs.Extrapolation.{llfr, weights, extrapolate, firstTooWide}
+use Rattle.method.specs.Extrapolation.{llfr, weights, adjustedYears, firstRaised, firstTooWide}
 use Rattle.method.specs.Curve as method
-use Rattle.method.specs.Curve.{smoothingYear, usedQuotes, factorOf, gapForwards}
-use Rattle.method.specs.Ranges.{NumbersInRange}
-use Rattle.grounds.specs.Verdicts.{asOutcome}
+use Rattle.method.specs.Curve.{Held, none, some, smoothingYear, usedQuotes, factorOf, gapForwards, extended, curveWith}
+use Rattle.method.specs.Ranges.{logarithmBound, NumbersInRange}
+use Rattle.rounding.specs.Pairs.{asSignedPair}
+use Rattle.rounding.specs.declared.SignedPair as code
 use Rattle.bootstrap.specs.declared.Liquid.{Liquid}
 use Rattle.bootstrap.specs.Liquids.{asBootstrap, LiquidSound}
-use Rattle.extrapolation.specs.declared.Extended.{Extended}
-use Rattle.extrapolation.specs.Extrapolated.{asYears}
+use Rattle.extrapolation.specs.declared.Forwards.{Forwards}
+use Rattle.extrapolation.specs.declared.Years.{Years}
+use Rattle.extrapolation.specs.Extrapolated.{asForwards, factorAt, ForwardSizes, InRange, Usable, Ahead}
 use Rattle.curve.specs.declared.Curve.{Curve}
+use Rattle.curve.specs.declared.Curves.{Curves}
 
 abbrev pub asCurve : Curve → method.Curve
 asCurve c = record { month = c .month; limit = c .limit; lows = c .years .lows; highs = c .years .highs }
+
+-- a flag beside a curve
+abbrev pub asHeld : Bool → Curve → Held method.Curve
+asHeld true c = some (asCurve c)
+asHeld false c = none
+
+abbrev pub asCurves : Curves → method.Curves
+asCurves cs = record { plain = asCurve (cs .plain); adjusted = asHeld (cs .adjusts) (cs .adjusted) }
 
 -- what stands beside a refusal
 abbrev pub noCurve : method.Curve
 noCurve = record { month = 0; limit = 0; lows = replicate 150 0; highs = replicate 150 0 }
 
--- ---- the steps of `curveOf`
+abbrev pub noCurves : method.Curves
+noCurves = record { plain = noCurve; adjusted = none }
 
--- the quotes that a sheet's numbers leave, none refused
-pub record WorkedQuotes (n : Numbers) (q : Liquid) : Type 0 where
-  pub numbers : NumbersInRange n
-  pub worked : bootstrap (usedQuotes n) ≡ done (asBootstrap q)
-  pub sound : LiquidSound q
+-- ---- the steps of `curvesOf`
 
 -- the years to 20, and zeros
 abbrev pub firstYears : List ℕ → List ℕ
 firstYears xs = take smoothingYear xs ++ replicate 130 0
 
--- the years after them
-abbrev pub laterYears : Numbers → Bootstrap → Outcome (List Pair)
-laterYears n b =
-    extrapolate (ultimateForward (n .ultimate)) (llfr (n .volumes) (gapForwards n b)) (weights (factorOf n) 130) (smoothingYear + 1)
-    (lastYear (take smoothingYear (b .factors)))
+-- a curve from the years to 20 and LLFR
+abbrev pub curveFrom : Numbers → SignedPair → List Pair → Outcome method.Curve
+curveFrom n f quoted = extended n f quoted >>= λ years. done (curveWith n years)
 
--- all years
-pub record Extends (n : Numbers) (q : Liquid) (r : Extended) : Type 0 where
-  pub quoted : take smoothingYear (asYears (r .years)) ≡ take smoothingYear (asBootstrap q .factors)
-  pub later : asOutcome (r .verdict) (drop smoothingYear (asYears (r .years))) ≡ laterYears n (asBootstrap q)
+-- the adjusted one, from the plain one's years to 20 and g1 to g5
+abbrev pub adjustedFrom : Numbers → List SignedPair → List Pair → Outcome method.Curve
+adjustedFrom n gs quoted = do
+  lowered ← adjustedYears (n .adjustment) 1 quoted
+  curveFrom n (llfr (n .volumes) (firstRaised (n .adjustment) gs)) lowered
+
+abbrev pub adjustedIf : Bool → Numbers → List SignedPair → List Pair → Outcome (Held method.Curve)
+adjustedIf true n gs quoted = adjustedFrom n gs quoted >>= λ c. done (some c)
+adjustedIf false n gs quoted = done none
+
+-- both
+abbrev pub curvesFrom : Numbers → List SignedPair → List Pair → Outcome method.Curves
+curvesFrom n gs quoted = do
+  c ← curveFrom n (llfr (n .volumes) gs) quoted
+  a ← adjustedIf (n .adjusts) n gs quoted
+  done (record { plain = c; adjusted = a })
 
 -- ground 10
 abbrev pub banded : method.Curve → Outcome method.Curve
@@ -56,3 +75,33 @@ banded c = do
   let wide = firstTooWide (c .limit) 1 (pairsOf (c .lows) (c .highs))
   _ ← demand (eqb wide 0) (bandTooWide wide)
   done c
+
+-- ---- what they ask
+
+-- the quotes that a sheet's numbers leave, none refused
+pub record WorkedQuotes (n : Numbers) (q : Liquid) : Type 0 where
+  pub numbers : NumbersInRange n
+  pub worked : bootstrap (usedQuotes n) ≡ done (asBootstrap q)
+  pub sound : LiquidSound q
+
+-- L and κ are the sheet's
+pub record Onward (n : Numbers) (l : code.SignedPair) (klows khighs : List ℕ) : Type 0 where
+  pub ultimate : asSignedPair l ≡ ultimateForward (n .ultimate)
+  pub usable : Usable l
+  pub ahead : Ahead klows khighs 20
+  pub pairs : pairsOf klows khighs ≡ weights (factorOf n) 130
+
+pub record Extending (n : Numbers) (l f : code.SignedPair) (klows khighs : List ℕ) (years : Years) : Type 0 where
+  pub onward : Onward n l klows khighs
+  pub usable : Usable f
+  pub last : InRange (factorAt years 19)
+
+-- g1 to g5 are the forwards of quotes that were worked, whose years to 20 passed
+pub record Ready (n : Numbers) (l : code.SignedPair) (g : Forwards) (klows khighs : List ℕ) (years : Years) : Type 0 where
+  pub onward : Onward n l klows khighs
+  pub numbers : NumbersInRange n
+  pub quotes : Bootstrap
+  pub worked : bootstrap (usedQuotes n) ≡ done quotes
+  pub forwards : asForwards g ≡ gapForwards n quotes
+  pub sizes : ForwardSizes logarithmBound g
+  pub in-range : (i : ℕ) → i < 20 → InRange (factorAt years i)

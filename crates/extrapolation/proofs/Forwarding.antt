@@ -48,13 +48,13 @@ module _ (vs : List ℕ) (g : Forwards) (hv : length vs ≡ 5) (hl : length (g .
   same : length (g .lows) ≡ length (g .highs)
   same = omega arith
 
-  llfr-within : 0 < total vs → ForwardSizes g → Within forwardBound (llfr vs (asForwards g))
+  llfr-within : 0 < total vs → ForwardSizes forwardBound g → Within forwardBound (llfr vs (asForwards g))
   llfr-within h b =
       llfr-bound-at vs (asForwards g) hv (zip-length signedPair (g .lows) (g .highs) same ∙ hl) h
       (λ i k. rw (zip-at signedPair (g .lows) (g .highs) i (pos 0) (pos 0) same)
       (record { low-within = record { bound = b .low-sizes i }; high-within = record { bound = b .high-sizes i } }))
 
-  pub llfr-is : 0 < total vs → ForwardSizes g → (r : SignedPair) →
+  pub llfr-is : 0 < total vs → ForwardSizes forwardBound g → (r : SignedPair) →
       r .low ≡ roundℤ false (llfrNumerator vs (g .lows)) (12 * total vs) → r .high ≡ roundℤ true (llfrNumerator vs (g .highs)) (12 * total vs) →
       (asSignedPair r ≡ llfr vs (asForwards g)) × SizeAtMost forwardBound r
   unfolding llfr

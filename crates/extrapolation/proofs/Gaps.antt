@@ -6,7 +6,7 @@ use native.Mathlib.Omega.{arith}
 use lib.IntN.{ℤ, pos, natAbs}
 use lib.ListN.{length, getD, take, set, replicate, length-set, length-map, List·getD-map}
 use Rattle.method.specs.Units.{pair, signedPair, pairsOf}
-use Rattle.method.specs.Ranges.{forwardBound}
+use Rattle.method.specs.Ranges.{logarithmBound}
 use Rattle.method.specs.Series.{gapForward}
 use Rattle.method.proofs.Zips.{zip-set, zip-length, zip-at, front-more, front-all, all-set}
 use Rattle.rounding.specs.Pairs.{asSignedPair, SizeAtMost}
@@ -20,7 +20,7 @@ pub record Filled (lows highs : List ℕ) (from to : List ℤ) (i : ℕ) : Type 
   pub highs-length : length highs ≡ 5
   pub from-length : length from ≡ 5
   pub to-length : length to ≡ 5
-  pub sizes : ForwardSizes (record { lows = from; highs = to })
+  pub sizes : ForwardSizes logarithmBound (record { lows = from; highs = to })
   pub front : take i (zipWith signedPair from to) ≡ take i (map gapForward (pairsOf lows highs))
 
 replicated : {A : Type 0} (a : A) (n j : ℕ) → getD (replicate n a) j a ≡ a
@@ -30,7 +30,7 @@ replicated a (suc n) (suc j) = replicated a n j
 
 pub no-gap : {lows highs : List ℕ} → length lows ≡ 5 → length highs ≡ 5 → Filled lows highs (replicate 5 (pos 0)) (replicate 5 (pos 0)) 0
 no-gap hl hh =
-    let zeros : (j : ℕ) → natAbs (getD (replicate 5 (pos 0)) j (pos 0)) ≤ forwardBound = λ j. rw (replicated (pos 0) 5 j) (omega arith) in
+    let zeros : (j : ℕ) → natAbs (getD (replicate 5 (pos 0)) j (pos 0)) ≤ logarithmBound = λ j. rw (replicated (pos 0) 5 j) (omega arith) in
     record {
       turns = omega arith;
       lows-length = hl;
@@ -51,12 +51,12 @@ module _ {lows highs : List ℕ} {from to : List ℤ} {i : ℕ} (d : Filled lows
   gap-at : getD (map gapForward (pairsOf lows highs)) i (gapForward (pair 0 0)) ≡ gapForward (pair (getD lows i 0) (getD highs i 0))
   gap-at = List·getD-map gapForward (pairsOf lows highs) i (pair 0 0) ∙ ap gapForward (zip-at pair lows highs i 0 0 (omega arith))
 
-  pub after-gap : (f : SignedPair) → i < 5 → asSignedPair f ≡ gapForward (pair (getD lows i 0) (getD highs i 0)) → SizeAtMost forwardBound f →
+  pub after-gap : (f : SignedPair) → i < 5 → asSignedPair f ≡ gapForward (pair (getD lows i 0) (getD highs i 0)) → SizeAtMost logarithmBound f →
       Filled lows highs (set from i (stored (f .low))) (set to i (stored (f .high))) (i + 1)
   after-gap f h e b =
       let low = stored-is (f .low) (b .low-size) tt in
       let high = stored-is (f .high) (b .high-size) tt in
-      let small : ℤ → Type 0 = λ z. natAbs z ≤ forwardBound in
+      let small : ℤ → Type 0 = λ z. natAbs z ≤ logarithmBound in
       record {
         turns = omega arith;
         lows-length = d .lows-length;

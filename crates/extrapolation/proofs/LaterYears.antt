@@ -154,7 +154,7 @@ module _ {l f : SignedPair} {klows khighs : List ℕ} {start : ℕ} (ahead : Ahe
     abbrev later : Years
     later = record { lows = set (y .lows) (start + i) (q .low); highs = set (y .highs) (start + i) (q .high) }
 
-    ranged : InRange q
+    pub ranged : InRange q
     ranged = record { ordered = rw e (next-ordered l f ahead i h p ol of (d .current .ordered)); at-most = m }
 
     at-written : factorAt later (start + i) ≡ q

@@ -1,9 +1,9 @@
 -- What the contracts cite beside the definitions of the crate method.
 use mathlib.Core.Path.{_≡_}
-use mathlib.Core.Bool.{Bool, true, false}
+use mathlib.Core.Bool.{Bool, true, false, not}
 use mathlib.Core.List.{List, zipWith}
-use Prim.Native.Nat.{ℕ, _+_, _-_, _≤_, _<_}
-use lib.IntN.{ℤ, pos, natAbs}
+use Prim.Native.Nat.{ℕ, suc, _+_, _-_, _≤_, _<_}
+use lib.IntN.{ℤ, pos, negsuc, natAbs}
 use lib.ListN.{length, getD, take, drop}
 use lib.Signed.{_≤ℤ_}
 use Rattle.fraction.specs.Rounding.{U}
@@ -11,8 +11,9 @@ use Rattle.method.specs.Units as method
 use Rattle.method.specs.Units.{pair, signedPair, pairsOf}
 use Rattle.method.specs.Grounds.{Outcome}
 use Rattle.method.specs.Quotes.{highestFactor}
-use Rattle.method.specs.Ranges.{forwardBound}
+use Rattle.method.specs.Ranges.{forwardBound, growthBound}
 use Rattle.method.specs.Extrapolation.{smaller, larger, stepLow, stepHigh, extrapolate}
+use Rattle.series.specs.Sides.{growthBy}
 use Rattle.rounding.specs.Pairs.{asSignedPair, SizeAtMost}
 use Rattle.rounding.specs.declared.SignedPair.{SignedPair}
 use Rattle.grounds.specs.Verdicts.{asOutcome}
@@ -48,16 +49,30 @@ abbrev pub stepBy : Bool → ℤ → ℕ → ℕ
 stepBy true = stepHigh
 stepBy false = stepLow
 
+-- E at a forward's size, of the side that a step takes: its own below 0, where it multiplies, and the other from 0 up, where it divides
+abbrev pub growthAt : Bool → ℤ → ℕ
+growthAt up (pos f) = growthBy (not up) f
+growthAt up (negsuc f) = growthBy up (suc f)
+
+pub record GrowthFor (up : Bool) (f : ℤ) (g : ℕ) : Type 0 where
+  pub is : g ≡ growthAt up f
+  pub least : U ≤ g
+  pub most : g ≤ growthBound
+
 -- ---- ranges
+
+-- the factors that a step takes: some above ground 8, which is tried after all steps of an adjusted year
+abbrev pub stepRange : ℕ
+stepRange = 2_500_000_000
 
 -- SPECIFICATION 2: a traded volume's range
 abbrev pub volumeBound : ℕ
 volumeBound = 1_000_000
 
 -- at every index; past the end stands 0
-pub record ForwardSizes (g : Forwards) : Type 0 where
-  pub low-sizes : (i : ℕ) → natAbs (getD (g .lows) i (pos 0)) ≤ forwardBound
-  pub high-sizes : (i : ℕ) → natAbs (getD (g .highs) i (pos 0)) ≤ forwardBound
+pub record ForwardSizes (M : ℕ) (g : Forwards) : Type 0 where
+  pub low-sizes : (i : ℕ) → natAbs (getD (g .lows) i (pos 0)) ≤ M
+  pub high-sizes : (i : ℕ) → natAbs (getD (g .highs) i (pos 0)) ≤ M
 
 -- a factor that passes ground 8; an extrapolated low may be 0
 pub record InRange (p : method.Pair) : Type 0 where

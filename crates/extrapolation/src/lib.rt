@@ -12,12 +12,12 @@ ghost use lib.ListN.{getD};
 ghost use Rattle.fraction.specs.Rounding.{U, roundℤ};
 ghost use Rattle.method.specs.Units.{pair, pairsOf};
 ghost use Rattle.method.specs.Quotes.{highestFactor};
-ghost use Rattle.method.specs.Ranges.{forwardBound, YearlyFactor};
+ghost use Rattle.method.specs.Ranges.{logarithmBound, forwardBound, YearlyFactor};
 ghost use Rattle.method.specs.Sheet.{total};
 ghost use Rattle.method.specs.Series.{gapForward};
 ghost use Rattle.method.specs.Extrapolation.{llfrNumerator, llfr, blend, forward, step};
 ghost use Rattle.rounding.specs.Pairs.{asPair, asSignedPair, PairAtMost, SizeAtMost};
-ghost use Rattle.extrapolation.specs.Extrapolated.{asForwards, factorAt, outer, stepBy, volumeBound, ForwardSizes, WeightRange};
+ghost use Rattle.extrapolation.specs.Extrapolated.{asForwards, factorAt, outer, stepBy, GrowthFor, stepRange, volumeBound, ForwardSizes, WeightRange};
 ghost use Rattle.extrapolation.specs.Extrapolated.{InRange, Usable, Ahead, Extrapolates, Kept};
 
 // U of the definitions.
@@ -37,7 +37,7 @@ pub struct Forwards {
 // From the low and high x of each gap.
 pub fn gap_forwards(lows: [u64; 5], highs: [u64; 5]) -> Forwards
     requires { ⌜ ((i : ℕ) → i < 5 → YearlyFactor (pair (getD lows i 0) (getD highs i 0))) ⌝ }
-    ensures { λ r. ⌜ (asForwards r ≡ map gapForward (pairsOf lows highs)) × ForwardSizes r ⌝ }
+    ensures { λ r. ⌜ (asForwards r ≡ map gapForward (pairsOf lows highs)) × ForwardSizes logarithmBound r ⌝ }
 {
     let mut from = [0i64; 5];
     let mut to = [0i64; 5];
@@ -99,7 +99,7 @@ fn llfr_end(volumes: [u64; 5], g: [i64; 5], up: bool) -> i64
 }
 
 pub fn llfr(volumes: [u64; 5], g: Forwards) -> SignedPair
-    requires { ⌜ ((i : ℕ) → getD volumes i 0 ≤ volumeBound) × (0 < total volumes) × ForwardSizes g ⌝ }
+    requires { ⌜ ((i : ℕ) → getD volumes i 0 ≤ volumeBound) × (0 < total volumes) × ForwardSizes forwardBound g ⌝ }
     ensures { λ r. ⌜ (asSignedPair r ≡ llfr volumes (asForwards g)) × SizeAtMost forwardBound r ⌝ }
 {
     let lows = g.lows;
@@ -132,16 +132,36 @@ fn forward_end(l: i64, f: i64, k: Pair, up: bool) -> i64
 
 // ---- the year's step, times e to minus the forward (SPECIFICATION 5.4)
 
+// E at the forward's size, of the side that a step takes: its own below 0, the other from 0 up.
+pub fn growth_by(f: i64, up: bool) -> u64
+    requires { ⌜ natAbs f ≤ forwardBound ⌝ }
+    ensures { λ r. ⌜ GrowthFor up f r ⌝ }
+{
+    if f < 0 {
+        series::growth((-f) as u64, up)
+    } else {
+        series::growth(f as u64, !up)
+    }
+}
+
+// The step with it: times it below 0, over it from 0 up.
+pub fn step_with(f: i64, growth: u64, factor: u64, up: bool) -> u64
+    requires { ⌜ GrowthFor up f growth × (factor ≤ stepRange) ⌝ }
+    ensures { λ r. ⌜ r ≡ stepBy up f factor ⌝ }
+{
+    if f < 0 {
+        rounding::scale(factor, growth, up)
+    } else {
+        rounding::quotient(factor * UNIT, growth, up)
+    }
+}
+
 // f is the forward's high for a low, and its low for a high.
 fn step_end(f: i64, factor: u64, up: bool) -> u64
     requires { ⌜ (natAbs f ≤ forwardBound) × (factor ≤ highestFactor) ⌝ }
     ensures { λ r. ⌜ r ≡ stepBy up f factor ⌝ }
 {
-    if f < 0 {
-        rounding::scale(factor, series::growth((-f) as u64, up), up)
-    } else {
-        rounding::quotient(factor * UNIT, series::growth(f as u64, !up), up)
-    }
+    step_with(f, growth_by(f, up), factor, up)
 }
 
 // The year after p, at the forward between L and LLFR for κ: the low takes its high, the high its low.
@@ -161,8 +181,8 @@ fn next_year(l: SignedPair, f: SignedPair, k: Pair, p: Pair) -> Pair
 
 // Years 1 to 150, at index t - 1.
 pub struct Years {
-    pub lows: [u64; 150],
-    pub highs: [u64; 150],
+    pub lows: [u32; 150],
+    pub highs: [u32; 150],
 }
 
 // The years are as they came where one is refused.
@@ -188,8 +208,8 @@ pub fn extrapolate(
     let mut lows = years.lows;
     let mut highs = years.highs;
     let mut p = Pair {
-        low: lows[start - 1],
-        high: highs[start - 1],
+        low: lows[start - 1] as u64,
+        high: highs[start - 1] as u64,
     };
     for i in 0..klows.len() {
         let k = Pair {
@@ -204,8 +224,8 @@ pub fn extrapolate(
                 years: years,
             };
         }
-        lows[at] = p.low;
-        highs[at] = p.high;
+        lows[at] = p.low as u32;
+        highs[at] = p.high as u32;
     }
     Extended {
         verdict: Verdict::Passed,

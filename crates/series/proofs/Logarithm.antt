@@ -11,7 +11,7 @@ use mir.Val.{toZ}
 use Rattle.fraction.specs.Rounding.{U, ceilDiv, roundℕ}
 use Rattle.method.specs.Units.{signedPair}
 use Rattle.method.specs.Quotes.{lowerEnd, upperEnd}
-use Rattle.method.specs.Ranges.{forwardBound}
+use Rattle.method.specs.Ranges.{logarithmBound}
 use Rattle.method.specs.Series.{logarithmSum, logarithm, G}
 use Rattle.method.proofs.Logarithm.{distance}
 use Rattle.method.proofs.Quotients.{Below, down-below-up, up-below-up}
@@ -33,7 +33,7 @@ pub record Summed (up : Bool) (x s p sum i : ℕ) : Type 0 where
   pub turns : i ≤ 5
   pub square : s ≤ sBound
   pub power : p ≤ zBound
-  pub small : size up x < forwardBound
+  pub small : size up x < logarithmBound
   pub whole : 2 * (sum + logarithmSum (roundℕ up) s (2 * i + 1) p (5 - i)) ≡ size up x
 
 module _ (up : Bool) {x : ℕ} (l : lowerEnd ≤ x) (h : x ≤ upperEnd) where
@@ -93,15 +93,15 @@ module _ {x low high : ℕ} (l : low ≡ size false x) (h : high ≡ size true x
 
 -- ---- the machine's pair of two unsigned sizes, 1 added to the high
 
-module _ {low high : ℕ} (l : low < forwardBound) (h : high < forwardBound) where
+module _ {low high : ℕ} (l : low < logarithmBound) (h : high < logarithmBound) where
   low-is : toZ w64 low ≡ pos low
-  low-is = natural-is low {M = forwardBound} (omega arith) tt
+  low-is = natural-is low {M = logarithmBound} (omega arith) tt
 
   high-is : toZ w64 (high + 1) ≡ pos (high + 1)
-  high-is = natural-is (high + 1) {M = forwardBound} (omega arith) tt
+  high-is = natural-is (high + 1) {M = logarithmBound} (omega arith) tt
 
   pub cast-is : asSignedPair (record { low = toZ w64 low; high = toZ w64 (high + 1) }) ≡ signedPair (pos low) (pos (high + 1))
   cast-is = rw (low-is, high-is)
 
-  pub cast-size : SizeAtMost forwardBound (record { low = toZ w64 low; high = toZ w64 (high + 1) })
+  pub cast-size : SizeAtMost logarithmBound (record { low = toZ w64 low; high = toZ w64 (high + 1) })
   cast-size = record { low-size = rw low-is (omega arith); high-size = rw high-is (omega arith) }

@@ -5,7 +5,7 @@ use rounding::SignedPair;
 ghost use mathlib.Core.Path.{_≡_};
 ghost use Prim.Native.Nat.{_+_, _-_, _≤_, _<_};
 ghost use Rattle.fraction.specs.Rounding.{U, roundℕ};
-ghost use Rattle.method.specs.Ranges.{forwardBound, growthRange, growthBound, YearlyFactor};
+ghost use Rattle.method.specs.Ranges.{logarithmBound, growthRange, growthBound, YearlyFactor};
 ghost use Rattle.method.specs.Quotes.{lowerEnd, upperEnd};
 ghost use Rattle.method.specs.Series.{logarithm, G, gapForward, ultimateForward};
 ghost use Rattle.rounding.specs.Pairs.{asPair, asSignedPair, SizeAtMost};
@@ -30,7 +30,7 @@ fn distance_to_unit(x: u64) -> u64
 // |ln x|, without the 1 that is added to the high.
 fn log_size(x: u64, up: bool) -> u64
     requires { ⌜ (lowerEnd ≤ x) × (x ≤ upperEnd) ⌝ }
-    ensures { λ r. ⌜ (r ≡ logarithm (roundℕ up) ((U - x) + (x - U)) x) × (r < forwardBound) ⌝ }
+    ensures { λ r. ⌜ (r ≡ logarithm (roundℕ up) ((U - x) + (x - U)) x) × (r < logarithmBound) ⌝ }
 {
     let z = rounding::quotient(distance_to_unit(x) * UNIT, UNIT + x, up);
     let s = rounding::scale(z, z, up);
@@ -44,8 +44,8 @@ fn log_size(x: u64, up: bool) -> u64
 }
 
 fn negate(f: SignedPair) -> SignedPair
-    requires { ⌜ SizeAtMost forwardBound f ⌝ }
-    ensures { λ r. ⌜ (asSignedPair r ≡ negated (asSignedPair f)) × SizeAtMost forwardBound r ⌝ }
+    requires { ⌜ SizeAtMost logarithmBound f ⌝ }
+    ensures { λ r. ⌜ (asSignedPair r ≡ negated (asSignedPair f)) × SizeAtMost logarithmBound r ⌝ }
 {
     SignedPair {
         low: -f.high,
@@ -55,7 +55,7 @@ fn negate(f: SignedPair) -> SignedPair
 
 pub fn minus_log(x: u64) -> SignedPair
     requires { ⌜ (lowerEnd ≤ x) × (x ≤ upperEnd) ⌝ }
-    ensures { λ r. ⌜ (asSignedPair r ≡ G x) × SizeAtMost forwardBound r ⌝ }
+    ensures { λ r. ⌜ (asSignedPair r ≡ G x) × SizeAtMost logarithmBound r ⌝ }
 {
     let low = log_size(x, false);
     let high = log_size(x, true) + 1;
@@ -69,7 +69,7 @@ pub fn minus_log(x: u64) -> SignedPair
 // From G's low at the high x to G's high at the low x.
 pub fn gap_forward(x: Pair) -> SignedPair
     requires { ⌜ YearlyFactor (asPair x) ⌝ }
-    ensures { λ r. ⌜ (asSignedPair r ≡ gapForward (asPair x)) × SizeAtMost forwardBound r ⌝ }
+    ensures { λ r. ⌜ (asSignedPair r ≡ gapForward (asPair x)) × SizeAtMost logarithmBound r ⌝ }
 {
     let from = minus_log(x.high);
     let to = minus_log(x.low);
@@ -82,7 +82,7 @@ pub fn gap_forward(x: Pair) -> SignedPair
 // L = ln(1 + UFR)
 pub fn ultimate_forward(ufr: u64) -> SignedPair
     requires { ⌜ ufr ≤ 10_000 ⌝ }
-    ensures { λ r. ⌜ (asSignedPair r ≡ ultimateForward ufr) × SizeAtMost forwardBound r ⌝ }
+    ensures { λ r. ⌜ (asSignedPair r ≡ ultimateForward ufr) × SizeAtMost logarithmBound r ⌝ }
 {
     negate(minus_log(UNIT + 10_000 * ufr))
 }

@@ -56,9 +56,9 @@ module _ (l : Layout) where
   cursor-most i = front-most (entriesOf l) i
 
   -- an entry that is due, at the cursor, is the slot
-  pub slot-here : (e : Entry) (i start : ℕ) → Due i e → i < length (slotsOf l) → start ≡ cursor i →
+  pub slot-here : (e : Entry) (i start : ℕ) → Due l i e → i < length (slotsOf l) → start ≡ cursor i →
       slot (asKind (e .kind)) (e .maturity) start ≡ slotAt l i
-  slot-here e i start d h at = rw (d .kind l h, d .maturity l h, at, ← cursor-start i h)
+  slot-here e i start d h at = rw (d .kind h, d .maturity h, at, ← cursor-start i h)
 
   -- after it the cursor stands at the next
   pub slot-end : (t : Slot) (i : ℕ) → i < length (slotsOf l) → t ≡ slotAt l i → t .start + 1 + bodyLength (t .kind) ≡ cursor (i + 1)

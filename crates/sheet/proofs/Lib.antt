@@ -3,3 +3,4 @@ pub mod Cursor
 pub mod Places
 pub mod Trading
 pub mod Ranges
+pub mod Lasts

@@ -11,10 +11,10 @@ use Rattle.sheet.specs.declared.Entry.{Entry}
 use Rattle.sheet.specs.declared.Slot.{Slot}
 use Rattle.sheet.specs.Views.{asKind}
 
--- what is due at index i, the same under every layout that has this index
-pub record Due (i : ℕ) (e : Entry) : Type 0 where
-  pub kind : (l : Layout) → i < length (slotsOf l) → asKind (e .kind) ≡ slotAt l i .kind
-  pub maturity : (l : Layout) → i < length (slotsOf l) → e .maturity ≡ slotAt l i .maturity
+-- what is due at index i, where the layout has it
+pub record Due (l : Layout) (i : ℕ) (e : Entry) : Type 0 where
+  pub kind : i < length (slotsOf l) → asKind (e .kind) ≡ slotAt l i .kind
+  pub maturity : i < length (slotsOf l) → e .maturity ≡ slotAt l i .maturity
 
 -- the byte after the record's last
 abbrev pub endOf : Slot → ℕ

@@ -10,7 +10,7 @@ ghost use lib.IntN.{pos, natAbs};
 ghost use lib.Signed.{nonNeg};
 ghost use lib.ListN.{length, take, drop, getD};
 ghost use Rattle.method.specs.Grounds.{refused};
-ghost use Rattle.method.specs.Sheet.{kindByte, maturityBytes, numberBytes, bodyLength, lowest, highest, maturities, layoutOf, sizeOf, slotsOf};
+ghost use Rattle.method.specs.Sheet.{kindByte, maturityBytes, numberBytes, bodyLength, lowest, highest, maturities, layoutOf, sizeOf, slotsOf, slotAt};
 ghost use Rattle.method.specs.Sheet.{bodyOf, twosComplement16, reading, numberOfRecord, rightRecord, inRange, firstFailure};
 ghost use Rattle.method.specs.Sheet.{rate, volume, total, numbersOf, readSheet};
 ghost use Rattle.grounds.specs.Verdicts.{asGround, asOutcome, resultOr};
@@ -24,6 +24,8 @@ pub struct Numbers {
     pub ultimate: u64,
     pub limit: u64,
     pub phase_in: u64,
+    pub adjusts: bool,
+    pub adjustment: i64,
 }
 
 // The numbers are all zero where the sheet is refused.
@@ -32,9 +34,10 @@ pub struct ReadSheet {
     pub numbers: Numbers,
 }
 
-// Which records a sheet has: whether the phase-in's stands last.
+// Which records a sheet has: whether the phase-in's follows the 25, and whether the adjustment's stands last.
 pub struct Layout {
     pub phased: bool,
+    pub adjusts: bool,
 }
 
 pub enum Kind {
@@ -44,6 +47,7 @@ pub enum Kind {
     Ultimate,
     Limit,
     PhaseIn,
+    Adjustment,
 }
 
 // What is due at one place of the sheet.
@@ -78,30 +82,51 @@ struct Reading {
 struct Records {
     wrong: u64,
     outside: u64,
-    numbers: [i64; 26],
+    numbers: [i64; 27],
 }
 
 // ---- the layout
 
-// By the bytes alone: past the 25 records that every sheet has, more can only be the phase-in's.
+// By the bytes alone: past the 25 records stands one more, the adjustment's where the kind byte there is its own; past that one, both.
 pub fn layout_of(sheet: &[u8]) -> Layout
     ensures { λ r. ⌜ asLayout r ≡ layoutOf (now (sheet .entry)) ⌝ }
 {
-    Layout {
-        phased: 109 < sheet.len(),
+    if sheet.len() <= 109 {
+        return Layout {
+            phased: false,
+            adjusts: false,
+        };
     }
+    if 112 < sheet.len() {
+        return Layout {
+            phased: true,
+            adjusts: true,
+        };
+    }
+    let named = sheet[109] == 0x07;
+    Layout {
+        phased: !named,
+        adjusts: named,
+    }
+}
+
+// What a record adds where it stands.
+fn if_stands(stands: bool, n: usize) -> usize
+    ensures { λ r. ⌜ (r ≡ cond stands n 0) × (r ≤ n) ⌝ }
+{
+    if stands { n } else { 0 }
 }
 
 pub fn size_of(layout: Layout) -> usize
     ensures { λ r. ⌜ r ≡ sizeOf (asLayout layout) ⌝ }
 {
-    if layout.phased { 112 } else { 109 }
+    109 + if_stands(layout.phased, 3) + if_stands(layout.adjusts, 3)
 }
 
 fn count_of(layout: Layout) -> usize
-    ensures { λ r. ⌜ (r ≡ length (slotsOf (asLayout layout))) × (r ≤ 26) ⌝ }
+    ensures { λ r. ⌜ (r ≡ length (slotsOf (asLayout layout))) × (r ≤ 27) ⌝ }
 {
-    if layout.phased { 26 } else { 25 }
+    25 + if_stands(layout.phased, 1) + if_stands(layout.adjusts, 1)
 }
 
 // ---- what is due
@@ -125,6 +150,7 @@ fn form_of(k: Kind) -> Form
         Kind::Ultimate => Form(0x04, 0, 2),
         Kind::Limit => Form(0x05, 0, 4),
         Kind::PhaseIn => Form(0x06, 0, 2),
+        Kind::Adjustment => Form(0x07, 0, 2),
     }
 }
 
@@ -138,13 +164,27 @@ fn range_of(k: Kind) -> Range
         Kind::Ultimate => Range(0, 10_000),
         Kind::Limit => Range(1, 100_000),
         Kind::PhaseIn => Range(10_000, 20_000),
+        Kind::Adjustment => Range(-500, 500),
     }
 }
 
-// SPECIFICATION 2.1: what is due at index i, under any layout. The volumes' maturities are the last five of the table.
-pub fn entry_at(i: usize) -> Entry
-    requires { ⌜ i < 26 ⌝ }
-    ensures { λ r. ⌜ Due i r ⌝ }
+// Past the limit's record.
+fn last_kind(layout: Layout, i: usize) -> Kind
+    requires { ⌜ 25 ≤ i ⌝ }
+    ensures { λ r. ⌜ (i < length (slotsOf (asLayout layout)) → asKind r ≡ slotAt (asLayout layout) i .kind) ⌝ }
+{
+    if i == 25 {
+        if layout.phased {
+            return Kind::PhaseIn;
+        }
+    }
+    Kind::Adjustment
+}
+
+// SPECIFICATION 2.1: what is due at index i. The volumes' maturities are the last five of the table.
+pub fn entry_at(layout: Layout, i: usize) -> Entry
+    requires { ⌜ i < 27 ⌝ }
+    ensures { λ r. ⌜ Due (asLayout layout) i r ⌝ }
 {
     if i == 0 {
         Entry {
@@ -175,7 +215,7 @@ pub fn entry_at(i: usize) -> Entry
         }
     } else {
         Entry {
-            kind: Kind::PhaseIn,
+            kind: last_kind(layout, i),
             maturity: 0,
         }
     }
@@ -220,7 +260,7 @@ fn twos_complement(n: u64) -> i64
     if n < 0x8000 { z } else { z - 0x10000 }
 }
 
-// A rate is in two's complement, any other number has no sign (SPECIFICATION 2.2).
+// A rate and an adjustment are in two's complement, any other number has no sign (SPECIFICATION 2.2).
 fn signed(k: Kind, n: u64) -> i64
     requires { ⌜ n < 256 ^ numberBytes (asKind k) ⌝ }
     ensures { λ r. ⌜ r ≡ reading (asKind k) n ⌝ }
@@ -233,6 +273,7 @@ fn signed(k: Kind, n: u64) -> i64
         Kind::Ultimate => z,
         Kind::Limit => z,
         Kind::PhaseIn => z,
+        Kind::Adjustment => twos_complement(n),
     }
 }
 
@@ -286,11 +327,11 @@ fn read_records(sheet: &[u8], layout: Layout) -> Records
     let count = count_of(layout);
     let mut wrong: u64 = 0;
     let mut outside: u64 = 0;
-    let mut numbers = [0i64; 26];
+    let mut numbers = [0i64; 27];
     let mut start: usize = 0;
     let mut i: usize = 0;
     while i < count {
-        let due = entry_at(i);
+        let due = entry_at(layout, i);
         let kind = due.kind;
         let slot = Slot {
             kind: kind,
@@ -363,6 +404,18 @@ fn phase_in(numbers: &[i64], layout: Layout) -> u64
     }
 }
 
+// 0 where the record does not stand.
+fn adjustment(numbers: &[i64], layout: Layout) -> i64
+    requires { ⌜ AllInside (asLayout layout) (now numbers) ⌝ }
+    ensures { λ r. ⌜ r ≡ numbersOf (asLayout layout) (now (numbers .entry)) .adjustment ⌝ }
+{
+    if layout.adjusts {
+        numbers[numbers.len() - 1]
+    } else {
+        0
+    }
+}
+
 fn numbers_of(numbers: &[i64], layout: Layout) -> Numbers
     requires { ⌜ AllInside (asLayout layout) (now numbers) ⌝ }
     ensures { λ r. ⌜ asNumbers r ≡ numbersOf (asLayout layout) (now (numbers .entry)) ⌝ }
@@ -374,6 +427,8 @@ fn numbers_of(numbers: &[i64], layout: Layout) -> Numbers
         ultimate: unsigned(numbers, 23),
         limit: unsigned(numbers, 24),
         phase_in: phase_in(numbers, layout),
+        adjusts: layout.adjusts,
+        adjustment: adjustment(numbers, layout),
     }
 }
 
@@ -404,6 +459,8 @@ fn refused(g: Ground) -> ReadSheet
             ultimate: 0,
             limit: 0,
             phase_in: 0,
+            adjusts: false,
+            adjustment: 0,
         },
     }
 }

@@ -35,11 +35,17 @@ mul-band c = search needs
 element-copy-out-band : tie.Need-element-copy-out-band Inv-loop μ-loop
 element-copy-out-band c = search needs
 
+cast-band : tie.Need-cast-band Inv-loop μ-loop
+cast-band c = search needs
+
 mul-band-2 : tie.Need-mul-band-2 Inv-loop μ-loop
 mul-band-2 c = search needs
 
 element-copy-out-band-2 : tie.Need-element-copy-out-band-2 Inv-loop μ-loop
 element-copy-out-band-2 c = search needs
+
+cast-band-2 : tie.Need-cast-band-2 Inv-loop μ-loop
+cast-band-2 c = search needs
 
 band-requires : tie.Need-band-requires Inv-loop μ-loop
 band-requires c κs = search needs
@@ -86,8 +92,10 @@ first-too-wide-spec =
     loop-holds
     mul-band
     element-copy-out-band
+    cast-band
     mul-band-2
     element-copy-out-band-2
+    cast-band-2
     band-requires
     add-result
     returns

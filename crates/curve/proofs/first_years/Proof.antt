@@ -33,14 +33,14 @@ loop-holds c =
       highs = copied-none (replicate 150 0) (q .highs) (replicate 150 0) 20 (lit≤ tt) (omega (arith, highs)) refl;
     }
 
+returns : tie.Need-returns Inv-loop μ-loop
+returns c = absurd (omega (arith, c .before .before .before .pre, c .if1 .taken, c .before .loop-test .taken))
+
 mul-years : tie.Need-mul-years Inv-loop μ-loop
 mul-years c = search needs
 
 element-copy-out-years : tie.Need-element-copy-out-years Inv-loop μ-loop
 element-copy-out-years c = search needs
-
-cast-years : tie.Need-cast-years Inv-loop μ-loop
-cast-years c = search needs
 
 mul-years-2 : tie.Need-mul-years-2 Inv-loop μ-loop
 mul-years-2 c = search needs
@@ -53,9 +53,6 @@ mul-years-3 c = search needs
 
 element-copy-out-years-2 : tie.Need-element-copy-out-years-2 Inv-loop μ-loop
 element-copy-out-years-2 c = search needs
-
-cast-years-2 : tie.Need-cast-years-2 Inv-loop μ-loop
-cast-years-2 c = search needs
 
 mul-years-4 : tie.Need-mul-years-4 Inv-loop μ-loop
 mul-years-4 c = search needs
@@ -71,7 +68,7 @@ loop-less c = search needs
 
 loop-again : tie.Need-loop-again Inv-loop μ-loop
 loop-again c =
-    let at-test = c .before .before in
+    let at-test = c .before .before .before in
     let l = at-test .before .loop in
     let q = at-test .before .before .args .t1 in
     record {
@@ -79,8 +76,8 @@ loop-again c =
       highs = copied-more (replicate 150 0) (q .highs) (l .years .highs) 20 (l .i) (l .inv .highs) (at-test .loop-test .taken);
     }
 
-returns : tie.Need-returns Inv-loop μ-loop
-returns c =
+returns-2 : tie.Need-returns-2 Inv-loop μ-loop
+returns-2 c =
     let l = c .before .loop in
     let q = c .before .before .args .t1 in (
       copied-all (replicate 150 0) (q .lows) (l .years .lows) 20 (l .i) (l .inv .lows) (c .loop-test .left),
@@ -94,17 +91,16 @@ first-years-spec =
     Inv-loop
     μ-loop
     loop-holds
+    returns
     mul-years
     element-copy-out-years
-    cast-years
     mul-years-2
     element-write-years
     mul-years-3
     element-copy-out-years-2
-    cast-years-2
     mul-years-4
     element-write-years-2
     add-i
     loop-less
     loop-again
-    returns)
+    returns-2)

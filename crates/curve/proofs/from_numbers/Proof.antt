@@ -36,7 +36,8 @@ returns : tie.Need-returns
 returns c =
     let told = c .before .enum-told2 .given .1 in
     let at-quotes = c .before .before .before in
-    refused-alone (c .unworked .ensures .0) told (c .unworked .ensures .1) (quotes-refused _ (at-verdict _ told (worked at-quotes)))
+    let says = refused-alone (c .unworked .ensures .0) told (c .unworked .ensures .1 .0) (quotes-refused _ (at-verdict _ told (worked at-quotes))) in
+    (says .0, (says .1, λ e. c .unworked .ensures .1 .1))
 
 from-quotes-requires : tie.Need-from-quotes-requires
 from-quotes-requires c κs =

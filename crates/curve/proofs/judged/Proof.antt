@@ -12,17 +12,17 @@ use Rattle.curve.proofs.judged.Tie as tie
 first-too-wide-requires : tie.Need-first-too-wide-requires
 first-too-wide-requires c κs = search needs
 
-unworked-requires : tie.Need-unworked-requires
-unworked-requires c κs = search needs
+refused-requires : tie.Need-refused-requires
+refused-requires c κs = search needs
 
 returns : tie.Need-returns
 returns c =
     let wide = c .before .before .first-too-wide in
     let too-wide = banded-refused _ (λ e. c .before .if1 .taken (wide .ensures ∙ e)) in
-    refused-alone (c .unworked .ensures .0) refl (c .unworked .ensures .1) (too-wide ∙ ap (λ (t : ℕ). refused (bandTooWide t)) (sym (wide .ensures)))
+    refused-alone (c .refused .ensures .0) refl (c .refused .ensures .1) (too-wide ∙ ap (λ (t : ℕ). refused (bandTooWide t)) (sym (wide .ensures)))
 
 returns-2 : tie.Need-returns-2
 returns-2 c = rw (banded-done (asCurve (c .before .before .before .args .c)) (sym (c .before .first-too-wide .ensures) ∙ c .if1 .left)) (refl, refl)
 
 pub judged-spec : {M : Type 1} → statement M
-judged-spec = tie.close (tie.spec first-too-wide-requires unworked-requires returns returns-2)
+judged-spec = tie.close (tie.spec first-too-wide-requires refused-requires returns returns-2)

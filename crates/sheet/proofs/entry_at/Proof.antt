@@ -1,11 +1,11 @@
--- Index by index: a layout that has the index has this entry there, whatever else it has.
+-- Index by index: a layout that has the index has this entry there.
 use mathlib.Core.Path.{_≡_, refl, sym, ap, _∙_}
-use mathlib.Core.Bool.{Bool, true, false, cond}
 use Prim.Native.Nat.{ℕ, _+_, _-_, _<_}
 use native.Mathlib.Omega.{arith}
 use lib.ListN.{length, getD}
 use Rattle.method.specs.Sheet.{maturities, Layout, slotsOf, slot, slotAt}
-use Rattle.method.proofs.Slots.{slots-length, month-slot, rate-slot, volume-slot, ultimate-slot, limit-slot, phase-in-slot}
+use Rattle.method.proofs.Slots.{month-slot, rate-slot, volume-slot, ultimate-slot, limit-slot}
+use Rattle.sheet.proofs.Lasts.{no-maturity}
 use Rattle.sheet.specs.declared.Entry.{Entry}
 use Rattle.sheet.specs.Views.{asKind}
 use Rattle.sheet.specs.Records.{Due}
@@ -14,18 +14,12 @@ use Rattle.sheet.proofs.entry_at.Statement.{statement}
 use Rattle.sheet.proofs.entry_at.Tie as tie
 
 -- from the slot at index n, which is i
-due : {i m s : ℕ} (e : Entry) (n : ℕ) → e .maturity ≡ m → n ≡ i →
-    ((l : Layout) → n < length (slotsOf l) → slotAt l n ≡ slot (asKind (e .kind)) m s) → Due i e
+due : {l : Layout} {i m s : ℕ} (e : Entry) (n : ℕ) → e .maturity ≡ m → n ≡ i → (n < length (slotsOf l) → slotAt l n ≡ slot (asKind (e .kind)) m s) → Due l i e
 due e n q p at =
     record {
-      kind = λ l h. rw (← p) (sym (ap (λ t. t .kind) (at l (rw p h))));
-      maturity = λ l h. rw (← p) (q ∙ sym (ap (λ t. t .maturity) (at l (rw p h))));
+      kind = λ h. rw (← p) (sym (ap (λ t. t .kind) (at (rw p h))));
+      maturity = λ h. rw (← p) (q ∙ sym (ap (λ t. t .maturity) (at (rw p h))));
     }
-
--- only a layout with the phase-in's record has index 25
-phased : (b : Bool) → 25 < cond b 26 25 → b ≡ true
-phased true h = refl
-phased false h = absurd (omega arith)
 
 sub-j : tie.Need-sub-j
 sub-j c = search needs
@@ -39,28 +33,31 @@ add-maturity c = search needs
 maturity-requires-2 : tie.Need-maturity-requires-2
 maturity-requires-2 c κs = search needs
 
+last-kind-requires : tie.Need-last-kind-requires
+last-kind-requires c κs = search needs
+
 returns : tie.Need-returns
-returns c = due _ 0 refl (omega arith) (λ l h. month-slot l)
+returns c = due _ 0 refl (omega arith) (λ h. month-slot _)
 
 returns-2 : tie.Need-returns-2
 returns-2 c =
     let i = c .before .before .before .args .i in
-    due _ (1 + (i - 1)) (c .maturity .ensures) (omega arith) (λ l h. rate-slot l (i - 1) (omega arith))
+    due _ (1 + (i - 1)) (c .maturity .ensures) (omega arith) (λ h. rate-slot _ (i - 1) (omega arith))
 
 returns-3 : tie.Need-returns-3
 returns-3 c =
     let i = c .before .before .before .before .args .i in
     let m : c .maturity2 .result ≡ getD maturities (12 + (i - 18)) 0 = c .maturity2 .ensures in
-    due _ (18 + (i - 18)) m (omega arith) (λ l h. volume-slot l (i - 18) (omega arith))
+    due _ (18 + (i - 18)) m (omega arith) (λ h. volume-slot _ (i - 18) (omega arith))
 
 returns-4 : tie.Need-returns-4
-returns-4 c = due _ 23 refl (omega arith) (λ l h. ultimate-slot l)
+returns-4 c = due _ 23 refl (omega arith) (λ h. ultimate-slot _)
 
 returns-5 : tie.Need-returns-5
-returns-5 c = due _ 24 refl (omega arith) (λ l h. limit-slot l)
+returns-5 c = due _ 24 refl (omega arith) (λ h. limit-slot _)
 
 returns-6 : tie.Need-returns-6
-returns-6 c = due _ 25 refl (omega arith) (λ l h. phase-in-slot l (phased (l .phased) (rw (slots-length l) at h)))
+returns-6 c = record { kind = c .last-kind .ensures; maturity = no-maturity _ _ (omega arith) }
 
 pub entry-at-spec : {M : Type 1} → statement M
 entry-at-spec =
@@ -70,6 +67,7 @@ entry-at-spec =
     maturity-requires
     add-maturity
     maturity-requires-2
+    last-kind-requires
     returns
     returns-2
     returns-3

@@ -1,6 +1,8 @@
 -- Each number by its index; those with one number a kind have no sign.
 use mathlib.Core.Path.{refl}
 use native.Mathlib.Omega.{arith}
+use mir.Syntax.{w64}
+use mir.ValLaws.{toZ-ofZ}
 use Rattle.method.proofs.Slots.{slots-least, month-slot, ultimate-slot, limit-slot}
 use Rattle.sheet.specs.Views.{asLayout}
 use Rattle.sheet.proofs.Ranges.{rate-run, volume-run, unsigned-inside}
@@ -34,8 +36,18 @@ unsigned-requires-3 c κs =
 phase-in-requires : tie.Need-phase-in-requires
 phase-in-requires c κs = search needs
 
+adjustment-requires : tie.Need-adjustment-requires
+adjustment-requires c κs = search needs
+
 returns : tie.Need-returns
-returns c = cc
+returns c =
+    let six = c .before .before .before .before .before .before in
+    let five = c .before .before .before .before .before in
+    let four = c .before .before .before .before in
+    let three = c .before .before .before in
+    let two = c .before .before in
+    rw (toZ-ofZ w64 _ (record { sfits = c .adjustment .ok }), c .adjustment .ensures, c .before .phase-in .ensures, two .unsigned3 .ensures)
+    (rw (three .unsigned2 .ensures, four .volumes .ensures, five .rates .ensures, six .unsigned .ensures) refl)
 
 pub numbers-of-spec : {M : Type 1} → statement M
 numbers-of-spec =
@@ -47,4 +59,5 @@ numbers-of-spec =
     unsigned-requires-2
     unsigned-requires-3
     phase-in-requires
+    adjustment-requires
     returns)

@@ -2,6 +2,7 @@
 use mathlib.Core.Path.{refl}
 use native.Mathlib.Omega.{arith}
 use Rattle.method.proofs.Slots.{slots-phased, phase-in-slot}
+use Rattle.sheet.specs.Views.{asLayout}
 use Rattle.sheet.proofs.Ranges.{unsigned-inside}
 use Rattle.sheet.proofs.phase_in.Statement.{statement}
 use Rattle.sheet.proofs.phase_in.Tie as tie
@@ -9,7 +10,8 @@ use Rattle.sheet.proofs.phase_in.Tie as tie
 unsigned-requires : tie.Need-unsigned-requires
 unsigned-requires c κs =
     let phased = c .if1 .taken in
-    unsigned-inside _ _ (c .before .pre) 25 _ (omega (arith, slots-phased _ phased)) (phase-in-slot _ phased) refl
+    let l = asLayout (c .before .args .layout) in
+    unsigned-inside l _ (c .before .pre) 25 _ (omega (arith, slots-phased l phased)) (phase-in-slot l phased) refl
 
 returns : tie.Need-returns
 returns c = rw (c .before .if1 .taken) (c .unsigned .ensures)

@@ -25,37 +25,42 @@ record Read (s : List ℕ) (l : Layout) (wrong outside : ℕ) (numbers : List �
   inside : Found (inRange s) (slotsOf l) outside i
   filled : Filled (map (numberOfRecord s) (slotsOf l)) (take (length (slotsOf l)) numbers) i
 
--- for each layout with the count of slots
 abbrev Inv-loop : tie.InvT-loop
-Inv-loop sheet count wrong₀ outside₀ numbers₀ start₀ i₀ wrong outside numbers start i =
-    (l : Layout) → count ≡ length (slotsOf l) → Read sheet l wrong outside numbers start i
+Inv-loop sheet layout count wrong₀ outside₀ numbers₀ start₀ i₀ wrong outside numbers start i =
+    Read sheet (asLayout layout) wrong outside numbers start i × (count ≡ length (slotsOf (asLayout layout)))
 
 abbrev μ-loop : tie.MeasureT-loop
-μ-loop sheet count wrong₀ outside₀ numbers₀ start₀ i₀ wrong outside numbers start i = count - i
+μ-loop sheet layout count wrong₀ outside₀ numbers₀ start₀ i₀ wrong outside numbers start i = count - i
 
 count-of-requires : tie.Need-count-of-requires Inv-loop μ-loop
 count-of-requires c κs = search needs
 
 loop-holds : tie.Need-loop-holds Inv-loop μ-loop
-loop-holds c = λ l e.
+loop-holds c =
+    let start = c .before .before in
+    let l = asLayout (start .args .layout) in
     let n = length (slotsOf l) in
-    let zeros = replicate 26 (pos 0) in
-    let long : length (take n zeros) ≡ n = length-take-le n zeros (slots-most l) in
-    record {
-      at = sym (cursor-first l);
-      right = found-none (rightRecord (c .before .before .args .sheet .now)) (slotsOf l);
-      inside = found-none (inRange (c .before .before .args .sheet .now)) (slotsOf l);
-      filled = filled-none _ _ (rw length-map long);
-    }
+    let zeros = replicate 27 (pos 0) in
+    let long : length (take n zeros) ≡ n = length-take-le n zeros (slots-most l) in (
+      record {
+        at = sym (cursor-first l);
+        right = found-none (rightRecord (now (start .args .sheet))) (slotsOf l);
+        inside = found-none (inRange (now (start .args .sheet))) (slotsOf l);
+        filled = filled-none _ _ (rw length-map long);
+      },
+      c .count-of .ensures .0,
+    )
 
 -- the slot that is read is the one that is due
-here : (c : tie.After-entry-at Inv-loop μ-loop) (l : Layout) → c .before .before .before .count-of .result ≡ length (slotsOf l) →
+here : (c : tie.After-entry-at Inv-loop μ-loop) →
+    let l = asLayout (c .before .before .before .before .before .args .layout) in
     let e = c .entry-at .result in
     let at = c .before .before .loop in
     slot (asKind (e .kind)) (e .maturity) (at .start) ≡ slotAt l (at .i)
-here c l e =
+here c =
+    let l = asLayout (c .before .before .before .before .before .args .layout) in
     let at = c .before .before .loop in
-    slot-here l (c .entry-at .result) (at .i) (at .start) (c .entry-at .ensures) (rw e at (c .before .loop-test .taken)) (at .inv l e .at)
+    slot-here l (c .entry-at .result) (at .i) (at .start) (c .entry-at .ensures) (rw (at .inv .1) at (c .before .loop-test .taken)) (at .inv .0 .at)
 
 entry-at-requires : tie.Need-entry-at-requires Inv-loop μ-loop
 entry-at-requires c κs = search needs
@@ -65,9 +70,9 @@ read-record-requires c κs =
     let at = c .before .before in
     let start = at .before .before .before in
     let l = asLayout (start .args .layout) in
-    let e = at .before .count-of .ensures .0 in
+    let e = at .loop .inv .1 in
     let i = at .loop .i in
-    omega (arith, start .pre, slot-end l _ i (rw e at (c .before .loop-test .taken)) (here c l e), cursor-most l (i + 1))
+    omega (arith, start .pre, slot-end l _ i (rw e at (c .before .loop-test .taken)) (here c), cursor-most l (i + 1))
 
 add-place : tie.Need-add-place Inv-loop μ-loop
 add-place c = search needs
@@ -91,33 +96,37 @@ loop-less : tie.Need-loop-less Inv-loop μ-loop
 loop-less c = search needs
 
 loop-again : tie.Need-loop-again Inv-loop μ-loop
-loop-again c = λ l e.
+loop-again c =
     let read = c .before .before .before in
     let at = read .before .before .before in
-    let before = at .loop .inv l e in
+    let l = asLayout (at .before .before .before .args .layout) in
+    let before = at .loop .inv .0 in
+    let e = at .loop .inv .1 in
     let i = at .loop .i in
     let h : i < length (slotsOf l) = rw e at (read .before .before .loop-test .taken) in
     let s = now (at .before .before .before .args .sheet) in
     let one = read .read-record .ensures in
-    let this = here (read .before) l e in
-    record {
-      at = one .1 .1 .1 ∙ slot-end l _ i h this;
-      right = rw (c .before .before .kept .ensures) (found-more (rightRecord s) _ (at .loop .wrong) i _ h (one .0 ∙ ap (rightRecord s) this) (before .right));
-      inside = rw (c .before .kept2 .ensures) (found-more (inRange s) _ (at .loop .outside) i _ h (one .1 .0 ∙ ap (inRange s) this) (before .inside));
-      filled =
-          rw (take-set-lt (length (slotsOf l)) (at .loop .numbers) i _ h)
-          (filled-more _ _ i _ (numberOfRecord s noSlot) (before .filled) (rw length-map h)
-          (toZ-ofZ w64 _ (omega arith) ∙ one .1 .1 .0 ∙ ap (numberOfRecord s) this ∙ sym (List·getD-map (numberOfRecord s) (slotsOf l) i noSlot)));
-    }
+    let this = here (read .before) in (
+      record {
+        at = one .1 .1 .1 ∙ slot-end l _ i h this;
+        right = rw (c .before .before .kept .ensures) (found-more (rightRecord s) _ (at .loop .wrong) i _ h (one .0 ∙ ap (rightRecord s) this) (before .right));
+        inside = rw (c .before .kept2 .ensures) (found-more (inRange s) _ (at .loop .outside) i _ h (one .1 .0 ∙ ap (inRange s) this) (before .inside));
+        filled =
+            rw (take-set-lt (length (slotsOf l)) (at .loop .numbers) i _ h)
+            (filled-more _ _ i _ (numberOfRecord s noSlot) (before .filled) (rw length-map h)
+            (toZ-ofZ w64 _ (omega arith) ∙ one .1 .1 .0 ∙ ap (numberOfRecord s) this ∙ sym (List·getD-map (numberOfRecord s) (slotsOf l) i noSlot)));
+      },
+      e,
+    )
 
 returns : tie.Need-returns Inv-loop μ-loop
 returns c =
     let at = c .before in
     let l = asLayout (at .before .before .before .args .layout) in
-    let e = at .before .count-of .ensures .0 in
+    let e = at .loop .inv .1 in
     let i = at .loop .i in
     let h : length (slotsOf l) ≤ i = rw e at (c .loop-test .left) in
-    let all = at .loop .inv l e in (
+    let all = at .loop .inv .0 in (
       found-all _ _ (at .loop .wrong) i h (all .right),
       (found-all _ _ (at .loop .outside) i h (all .inside), filled-all _ _ i (all .filled) (rw length-map h)),
     )

@@ -39,6 +39,12 @@ enum-told-5 c = search needs
 enum-told-6 : tie.Need-enum-told-6
 enum-told-6 c = search needs
 
+enum-told-7 : tie.Need-enum-told-7
+enum-told-7 c = search needs
+
+twos-complement-requires-2 : tie.Need-twos-complement-requires-2
+twos-complement-requires-2 c κs = rw (c .enum-told7 .given .1) at (c .before .before .pre)
+
 returns : tie.Need-returns
 returns c = rw (c .enum-told .given .1) (plain (c .before .before))
 
@@ -57,6 +63,9 @@ returns-5 c = rw (c .enum-told5 .given .1) (plain (c .before .before))
 returns-6 : tie.Need-returns-6
 returns-6 c = rw (c .enum-told6 .given .1) (plain (c .before .before))
 
+returns-7 : tie.Need-returns-7
+returns-7 c = rw (toZ-ofZ w64 _ (record { sfits = c .twos-complement2 .ok }), c .before .enum-told7 .given .1) (c .twos-complement2 .ensures)
+
 pub signed-spec : {M : Type 1} → statement M
 signed-spec =
     tie.close
@@ -69,9 +78,12 @@ signed-spec =
     enum-told-4
     enum-told-5
     enum-told-6
+    enum-told-7
+    twos-complement-requires-2
     returns
     returns-2
     returns-3
     returns-4
     returns-5
-    returns-6)
+    returns-6
+    returns-7)
