@@ -1,24 +1,29 @@
 -- What each call comes to, test by test; and a call turned down, whose book is as it was.
 use mathlib.Core.Path.{_≡_, refl, sym, ap, _∙_}
-use mathlib.Core.Bool.{Bool, true, false, not}
+use mathlib.Core.Bool.{Bool, true, false, not, cond, _&&_}
 use mathlib.Core.List.{List}
 use Prim.Native.Nat.{ℕ, _≤_, _<_}
 use borrow.Author.Tests.{le-leb, lt-leb}
+use lib.Dec.{leb}
 use Rattle.method.specs.Grounds.{Ground, afterToldMonth, beforeStandingCurve, monthAboveLast, monthBeforeTold, refused, done}
 use Rattle.method.specs.Sheet.{Numbers, readSheet}
-use Rattle.method.specs.Curve.{Curve, curveOf}
+use Rattle.method.specs.Units.{plain, adjusted}
+use Rattle.method.specs.Curve.{Curves, none, some, curvesOf}
 use Rattle.ledger.specs.Book as ledger
-use Rattle.ledger.specs.Book.{none, some, Booked, notBefore, postOutcome, post, turnOutcome, withTold, turn, openCurve}
+use Rattle.ledger.specs.Book.{Booked, named, notBefore, postOutcome, post, turnOutcome, withTold, turn, openCurve}
 use Rattle.grounds.specs.declared.Ground as grounds
 use Rattle.grounds.specs.declared.Verdict.{Verdict}
 use Rattle.grounds.specs.declared.Verdict.the-variants.{Refused}
 use Rattle.grounds.specs.Verdicts.{asGround, asOutcome, resultOr}
 use Rattle.grounds.proofs.Chain.{at-verdict}
 use Rattle.curve.specs.declared.Curve as curve
-use Rattle.curve.specs.Curves.{asCurve}
+use Rattle.curve.specs.declared.Curves as curves
+use Rattle.curve.specs.Curves.{asCurve, asHeld}
 use Rattle.book.specs.declared.Book as code
 use Rattle.book.specs.declared.Booked as reply
-use Rattle.book.specs.Views.{asStanding, asBook, asBooked}
+use Rattle.book.specs.declared.Which.{Which}
+use Rattle.book.specs.declared.Which.the-variants.{Plain, Adjusted}
+use Rattle.book.specs.Views.{asWhich, asStanding, asBook, asBooked}
 use Rattle.book.specs.Steps.{posted, afterReading, Opens}
 
 -- ---- a call that is turned down
@@ -46,16 +51,49 @@ pub so : (b : Bool) → not b ≡ false → b ≡ true
 so true e = refl
 so false e = sym e
 
-pub stands : (has : Bool) (c : curve.Curve) → not has ≡ false → asStanding has c ≡ some (asCurve c)
+pub stands : (has : Bool) (c : curve.Curve) → not has ≡ false → asHeld has c ≡ some (asCurve c)
 stands has c e = rw (so has e)
 
-pub vacant : (has : Bool) (c : curve.Curve) → not has ≡ true → asStanding has c ≡ none
+pub vacant : (has : Bool) (c : curve.Curve) → not has ≡ true → asHeld has c ≡ none
 vacant has c e = rw (not-so has e)
+
+-- ---- the flags beside the curves
+
+module _ (has : Bool) (cs : curves.Curves) where
+  pub named-plain : named plain (asStanding has cs) ≡ asHeld has (cs .plain)
+  named-plain = go has
+    where
+      go : (t : Bool) → named plain (asStanding t cs) ≡ asHeld t (cs .plain)
+      go true = refl
+      go false = refl
+
+  pub named-adjusted : named adjusted (asStanding has cs) ≡ asHeld (has && cs .adjusts) (cs .adjusted)
+  named-adjusted = go has
+    where
+      go : (t : Bool) → named adjusted (asStanding t cs) ≡ asHeld (t && cs .adjusts) (cs .adjusted)
+      go true = refl
+      go false = refl
+
+  pub order-is : (month : ℕ) → cond has (leb (cs .plain .month) month) true ≡ notBefore (asStanding has cs) month
+  order-is month = go has
+    where
+      go : (t : Bool) → cond t (leb (cs .plain .month) month) true ≡ notBefore (asStanding t cs) month
+      go true = refl
+      go false = refl
+
+-- what a call names
+module _ (b : code.Book) (w : Which) where
+  pub plain-named : w ≡ Plain → named (asWhich w) (asBook b .standing) ≡ asHeld (b .has) (b .curves .plain)
+  plain-named e = rw e (named-plain (b .has) (b .curves))
+
+  pub adjusted-named : w ≡ Adjusted → {t : Bool} → t ≡ (b .has && b .curves .adjusts) →
+      named (asWhich w) (asBook b .standing) ≡ asHeld t (b .curves .adjusted)
+  adjusted-named e s = rw (e, s) (named-adjusted (b .has) (b .curves))
 
 -- ---- what was asked of the curve: w is what a match found the verdict to be
 
 pub asked : (has : Bool) (c : curve.Curve) (told limit : ℕ) {month : ℕ} {v w : Verdict} → Opens has month told limit v → c .month ≡ month → v ≡ w →
-    openCurve (asStanding has c) told limit ≡ asOutcome w (asCurve c)
+    openCurve (asHeld has c) told limit ≡ asOutcome w (asCurve c)
 asked has c told limit opens m e = at-verdict (asCurve c) e (opens c m)
 
 -- ---- post
@@ -77,10 +115,10 @@ module _ (b : ledger.Book) (n : Numbers) where
   before-standing h k = rw (le-leb (n .month) (b .told) h, k)
 
   module _ (h : n .month ≤ b .told) (k : notBefore (b .standing) (n .month) ≡ true) where
-    pub curve-refused : {g : Ground} → curveOf n ≡ refused g → posted b (afterReading b n) ≡ kept b g
+    pub curve-refused : {g : Ground} → curvesOf n ≡ refused g → posted b (afterReading b n) ≡ kept b g
     curve-refused e = rw (le-leb (n .month) (b .told) h, k, e)
 
-    pub curve-worked : {c : Curve} → curveOf n ≡ done c → posted b (afterReading b n) ≡ posted b (done c)
+    pub curve-worked : {cs : Curves} → curvesOf n ≡ done cs → posted b (afterReading b n) ≡ posted b (done cs)
     curve-worked e = rw (le-leb (n .month) (b .told) h, k, e)
 
 -- ---- turn

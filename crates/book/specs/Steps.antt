@@ -6,29 +6,28 @@ use Prim.Native.Nat.{ℕ}
 use lib.Dec.{leb}
 use Rattle.method.specs.Grounds.{afterToldMonth, beforeStandingCurve, Outcome, done, _>>=_, demand}
 use Rattle.method.specs.Sheet.{Numbers}
-use Rattle.method.specs.Curve.{Curve, curveOf}
+use Rattle.method.specs.Curve.{Curve, Curves, curvesOf}
 use Rattle.zero_rates.specs.Rates.{zeroRates}
 use Rattle.ledger.specs.Answers.{Finding, finding}
-use Rattle.ledger.specs.Book.{Book, Booked, booked, notBefore, withCurve, age, openCurve, bandAt, Paged, pageIn}
+use Rattle.ledger.specs.Book.{Book, Booked, booked, notBefore, withCurves, age, openCurve, bandAt, Paged, pageIn}
 use Rattle.grounds.specs.declared.Verdict.{Verdict}
 use Rattle.grounds.specs.Verdicts.{asOutcome}
 use Rattle.curve.specs.declared.Curve as code
-use Rattle.curve.specs.Curves.{asCurve}
-use Rattle.book.specs.Views.{asStanding}
+use Rattle.curve.specs.Curves.{asCurve, asHeld}
 
 -- what a book makes of the numbers of a sheet that was read: 5 and 6, then 7 to 10
-abbrev pub afterReading : Book → Numbers → Outcome Curve
+abbrev pub afterReading : Book → Numbers → Outcome Curves
 afterReading b n = do
   _ ← demand (leb (n .month) (b .told)) afterToldMonth
   _ ← demand (notBefore (b .standing) (n .month)) beforeStandingCurve
-  curveOf n
+  curvesOf n
 
-abbrev pub posted : Book → Outcome Curve → Booked
-posted b o = booked b (withCurve b) (λ c. c .month) o
+abbrev pub posted : Book → Outcome Curves → Booked
+posted b o = booked b (withCurves b) (λ cs. cs .plain .month) o
 
 -- whether a curve may be shown, for which its month is all that counts: 14, then 16
 abbrev pub Opens : Bool → ℕ → ℕ → ℕ → Verdict → Type 0
-Opens has month told limit v = (c : code.Curve) → c .month ≡ month → asOutcome v (asCurve c) ≡ openCurve (asStanding has c) told limit
+Opens has month told limit v = (c : code.Curve) → c .month ≡ month → asOutcome v (asCurve c) ≡ openCurve (asHeld has c) told limit
 
 -- what a curve has for a year, or 17
 abbrev pub foundAt : Curve → ℕ → ℕ → Outcome Finding
@@ -39,4 +38,4 @@ foundAt c told y = do
 -- the page of a curve or none, for which its month and its bands are all that counts
 abbrev pub Pages : Bool → ℕ → List ℕ → List ℕ → ℕ → ℕ → List ℕ → Paged → Type 0
 Pages has month lows highs told limit lent p = (c : code.Curve) →
-    c .month ≡ month → c .years .lows ≡ lows → c .years .highs ≡ highs → p ≡ pageIn (asStanding has c) told limit lent
+    c .month ≡ month → c .years .lows ≡ lows → c .years .highs ≡ highs → p ≡ pageIn (asHeld has c) told limit lent

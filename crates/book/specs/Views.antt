@@ -3,26 +3,34 @@ use mathlib.Core.Bool.{Bool, true, false}
 use mathlib.Core.List.{List}
 use Prim.Native.Nat.{ℕ}
 use lib.IntN.{pos}
+use Rattle.method.specs.Units as method
 use Rattle.method.specs.Units.{pair, signedPair}
+use Rattle.method.specs.Curve.{none, some}
 use Rattle.ledger.specs.Answers as answer
 use Rattle.ledger.specs.Answers.{finding}
 use Rattle.ledger.specs.Book as ledger
-use Rattle.ledger.specs.Book.{Standing, none, some}
+use Rattle.ledger.specs.Book.{Standing}
 use Rattle.grounds.specs.declared.Verdict.{Verdict}
 use Rattle.grounds.specs.Verdicts.{asOutcome}
-use Rattle.curve.specs.declared.Curve.{Curve}
-use Rattle.curve.specs.Curves.{asCurve}
+use Rattle.curve.specs.declared.Curves.{Curves}
+use Rattle.curve.specs.Curves.{asCurves}
+use Rattle.book.specs.declared.Which.{Which}
+use Rattle.book.specs.declared.Which.the-variants as which
 use Rattle.book.specs.declared.Book.{Book}
 use Rattle.book.specs.declared.Booked.{Booked}
 use Rattle.book.specs.declared.Finding.{Finding}
 
--- a flag beside a curve
-abbrev pub asStanding : Bool → Curve → Standing
-asStanding true c = some (asCurve c)
-asStanding false c = none
+abbrev pub asWhich : Which → method.Which
+asWhich which.Plain = method.Which.plain
+asWhich which.Adjusted = method.Which.adjusted
+
+-- a flag beside the curves
+abbrev pub asStanding : Bool → Curves → Standing
+asStanding true cs = some (asCurves cs)
+asStanding false cs = none
 
 abbrev pub asBook : Book → ledger.Book
-asBook b = record { ageLimit = b .«age_limit»; told = b .told; standing = asStanding (b .has) (b .curve) }
+asBook b = record { ageLimit = b .«age_limit»; told = b .told; standing = asStanding (b .has) (b .curves) }
 
 abbrev pub asBooked : Booked → ledger.Booked
 asBooked r = record { book = asBook (r .book); answer = asOutcome (r .verdict) (r .month) }

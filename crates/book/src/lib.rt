@@ -1,30 +1,39 @@
-// The dated curve book: its age limit, the told month, and the curve of the last accepted sheet. No other crate can build a book or
+// The dated curve book: its age limit, the told month, and the curves of the last accepted sheet. No other crate can build a book or
 // read one, so each came from a list of calls that began with `fresh`.
 use curve::Curve;
+use curve::Curves;
 use grounds::Ground;
 use grounds::Verdict;
 use sheet::Numbers;
 ghost use mathlib.Core.Path.{_≡_};
+ghost use mathlib.Core.Bool.{true, cond, _&&_};
 ghost use Prim.Native.Nat.{_-_, _≤_};
+ghost use lib.Dec.{leb};
 ghost use Rattle.method.specs.Grounds.{done};
 ghost use Rattle.method.specs.Ranges.{NumbersInRange};
-ghost use Rattle.ledger.specs.Book.{fresh, notBefore, withTold, post, turn, lookIn, lookUp, page};
+ghost use Rattle.ledger.specs.Book.{fresh, withTold, post, turn, lookIn, lookUp, page};
 ghost use Rattle.page_writer.specs.Written.{Bands};
 ghost use Rattle.grounds.specs.Verdicts.{asOutcome, resultOr};
 ghost use Rattle.sheet.specs.Views.{asNumbers};
-ghost use Rattle.curve.specs.Curves.{asCurve};
-ghost use Rattle.book.specs.Views.{asStanding, asBook, asBooked, asFinding, noFinding, asPaged};
+ghost use Rattle.curve.specs.Curves.{asCurve, asHeld, asCurves};
+ghost use Rattle.book.specs.Views.{asWhich, asBook, asBooked, asFinding, noFinding, asPaged};
 ghost use Rattle.book.specs.Steps.{posted, afterReading, Opens, foundAt, Pages};
 
 // No curve can be older, as no month after 2,399 can be told.
 pub const LARGEST_AGE_LIMIT: u64 = 2_399;
 
-// Without `has` the curve is all zero and stands for none.
+// Without `has` the curves are all zero and stand for none.
 pub struct Book {
     age_limit: u64,
     told: u64,
     has: bool,
-    curve: Curve,
+    curves: Curves,
+}
+
+// The curve that a look-up or a page names.
+pub enum Which {
+    Plain,
+    Adjusted,
 }
 
 // A call that may change the book. The month is 0 where it is refused.
@@ -58,7 +67,11 @@ pub fn fresh(age_limit: u64) -> Book
         age_limit: rounding::smaller(age_limit, LARGEST_AGE_LIMIT),
         told: 0,
         has: false,
-        curve: curve::no_curve(),
+        curves: Curves {
+            plain: curve::no_curve(),
+            adjusts: false,
+            adjusted: curve::no_curve(),
+        },
     }
 }
 
@@ -77,12 +90,12 @@ fn turned_down(book: Book, verdict: Verdict) -> Booked
 
 // ---- post
 
-// The curve and its month are replaced.
-fn accepted(book: Book, curve: Curve) -> Booked
-    ensures booked { λ r. ⌜ asBooked r ≡ posted (asBook book) (done (asCurve curve)) ⌝ }
-    ensures beside { λ r. ⌜ r .month ≡ curve .month ⌝ }
+// The curves and their month are replaced.
+fn accepted(book: Book, curves: Curves) -> Booked
+    ensures booked { λ r. ⌜ asBooked r ≡ posted (asBook book) (done (asCurves curves)) ⌝ }
+    ensures beside { λ r. ⌜ r .month ≡ curves .plain .month ⌝ }
 {
-    let month = curve.month;
+    let month = curves.plain.month;
     Booked {
         verdict: Verdict::Passed,
         month: month,
@@ -90,16 +103,16 @@ fn accepted(book: Book, curve: Curve) -> Booked
             age_limit: book.age_limit,
             told: book.told,
             has: true,
-            curve: curve,
+            curves: curves,
         },
     }
 }
 
-// Not before the standing curve's month; while none stands, any month passes.
-fn not_before(has: bool, curve: Curve, month: u64) -> bool
-    ensures { λ r. ⌜ r ≡ notBefore (asStanding has curve) month ⌝ }
+// Not before the standing curves' month; while none stand, any month passes.
+fn not_before(has: bool, standing: u64, month: u64) -> bool
+    ensures { λ r. ⌜ r ≡ cond has (leb standing month) true ⌝ }
 {
-    if has { curve.month <= month } else { true }
+    if has { standing <= month } else { true }
 }
 
 // 5 and 6, then 7 to 10.
@@ -111,8 +124,7 @@ fn post_numbers(book: Book, n: Numbers) -> Booked
     if book.told < n.month {
         return turned_down(book, Verdict::Refused(Ground::AfterToldMonth));
     }
-    let standing = book.curve;
-    if !not_before(book.has, standing, n.month) {
+    if !not_before(book.has, book.curves.plain.month, n.month) {
         return turned_down(book, Verdict::Refused(Ground::BeforeStandingCurve));
     }
     let worked = curve::from_numbers(n);
@@ -120,8 +132,8 @@ fn post_numbers(book: Book, n: Numbers) -> Booked
     let Verdict::Passed = verdict else {
         return turned_down(book, verdict);
     };
-    let curve = worked.curve;
-    accepted(book, curve)
+    let curves = worked.curves;
+    accepted(book, curves)
 }
 
 pub fn post(book: Book, sheet: &[u8]) -> Booked
@@ -162,6 +174,15 @@ pub fn turn(book: Book, month: u64) -> Booked
         month: month,
         book: with_told(book, month),
     }
+}
+
+// ---- the curve that is named
+
+// An adjusted curve stands only beside a plain one.
+fn both(has: bool, adjusts: bool) -> bool
+    ensures { λ r. ⌜ r ≡ (has && adjusts) ⌝ }
+{
+    if has { adjusts } else { false }
 }
 
 // ---- what may be shown of a curve
@@ -220,8 +241,8 @@ fn found(curve: Curve, told: u64, year: u64) -> Looked
 {
     let years = curve.years;
     let i = (year - 1) as usize;
-    let low = years.lows[i];
-    let high = years.highs[i];
+    let low = years.lows[i] as u64;
+    let high = years.highs[i] as u64;
     let rated = rate_search::zero_rates(year, low, high);
     let verdict = rated.verdict;
     let Verdict::Passed = verdict else {
@@ -243,8 +264,8 @@ fn found(curve: Curve, told: u64, year: u64) -> Looked
 
 // Of any curve, or none.
 fn look_in(has: bool, curve: Curve, told: u64, age_limit: u64, year: u64) -> Looked
-    ensures outcome { λ r. ⌜ asOutcome (r .verdict) (asFinding (r .finding)) ≡ lookIn (asStanding has curve) told «age_limit» year ⌝ }
-    ensures beside { λ r. ⌜ asFinding (r .finding) ≡ resultOr noFinding (lookIn (asStanding has curve) told «age_limit» year) ⌝ }
+    ensures outcome { λ r. ⌜ asOutcome (r .verdict) (asFinding (r .finding)) ≡ lookIn (asHeld has curve) told «age_limit» year ⌝ }
+    ensures beside { λ r. ⌜ asFinding (r .finding) ≡ resultOr noFinding (lookIn (asHeld has curve) told «age_limit» year) ⌝ }
 {
     if year < 1 {
         return not_found(Verdict::Refused(Ground::YearOutside));
@@ -259,12 +280,21 @@ fn look_in(has: bool, curve: Curve, told: u64, age_limit: u64, year: u64) -> Loo
     found(curve, told, year)
 }
 
-pub fn look_up(book: Book, year: u64) -> Looked
-    ensures outcome { λ r. ⌜ asOutcome (r .verdict) (asFinding (r .finding)) ≡ lookUp (asBook book) year ⌝ }
-    ensures beside { λ r. ⌜ asFinding (r .finding) ≡ resultOr noFinding (lookUp (asBook book) year) ⌝ }
+pub fn look_up(book: Book, which: Which, year: u64) -> Looked
+    ensures outcome { λ r. ⌜ asOutcome (r .verdict) (asFinding (r .finding)) ≡ lookUp (asBook book) (asWhich which) year ⌝ }
+    ensures beside { λ r. ⌜ asFinding (r .finding) ≡ resultOr noFinding (lookUp (asBook book) (asWhich which) year) ⌝ }
 {
-    let curve = book.curve;
-    look_in(book.has, curve, book.told, book.age_limit, year)
+    match which {
+        Which::Plain => {
+            let plain = book.curves.plain;
+            look_in(book.has, plain, book.told, book.age_limit, year)
+        }
+        Which::Adjusted => {
+            let adjusted = book.curves.adjusted;
+            let stands = both(book.has, book.curves.adjusts);
+            look_in(stands, adjusted, book.told, book.age_limit, year)
+        }
+    }
 }
 
 // ---- page
@@ -273,8 +303,8 @@ pub fn look_up(book: Book, year: u64) -> Looked
 fn page_in<'a>(
     has: bool,
     month: u64,
-    lows: &'a [u64],
-    highs: &'a [u64],
+    lows: &'a [u32],
+    highs: &'a [u32],
     told: u64,
     age_limit: u64,
     out: &mut [u8],
@@ -293,16 +323,27 @@ fn page_in<'a>(
     Verdict::Passed
 }
 
-pub fn page(book: Book, out: &mut [u8]) -> Verdict
-    ensures { λ r. ⌜ asPaged r (now (out .exit)) ≡ page (asBook book) (now (out .entry)) ⌝ }
+pub fn page(book: Book, which: Which, out: &mut [u8]) -> Verdict
+    ensures { λ r. ⌜ asPaged r (now (out .exit)) ≡ page (asBook book) (asWhich which) (now (out .entry)) ⌝ }
 {
-    page_in(
-        book.has,
-        book.curve.month,
-        &book.curve.years.lows,
-        &book.curve.years.highs,
-        book.told,
-        book.age_limit,
-        out,
-    )
+    match which {
+        Which::Plain => page_in(
+            book.has,
+            book.curves.plain.month,
+            &book.curves.plain.years.lows,
+            &book.curves.plain.years.highs,
+            book.told,
+            book.age_limit,
+            out,
+        ),
+        Which::Adjusted => page_in(
+            both(book.has, book.curves.adjusts),
+            book.curves.adjusted.month,
+            &book.curves.adjusted.years.lows,
+            &book.curves.adjusted.years.highs,
+            book.told,
+            book.age_limit,
+            out,
+        ),
+    }
 }

@@ -65,8 +65,8 @@ strange-code code.NotKnown v m f = refl
 strange-front : (b : Book) (x : Front) → ((c : Call) (n : ℕ) → x ≡ whole c n → HasRecord c) → strange (replyTo b x) ≡ isUnknown x
 strange-front b (whole (postOf s) n) h = refl
 strange-front b (whole (turnTo m) n) h = refl
-strange-front b (whole (asks (lookAt y)) n) h = refl
-strange-front b (whole (asks (pageInto l)) n) h = absurd (h (asks (pageInto l)) n refl)
+strange-front b (whole (asks (lookAt w y)) n) h = refl
+strange-front b (whole (asks (pageInto w l)) n) h = absurd (h (asks (pageInto w l)) n refl)
 strange-front b cut h = refl
 strange-front b unknown h = refl
 

@@ -7,6 +7,7 @@ use lib.Dec.{eqb·suc-zero}
 use lib.ListN.{length, length-append}
 use lib.Seq.{take-at, drop-append-seam}
 use borrow.Author.Tests.{le-leb}
+use Rattle.method.specs.Units.{plain, adjusted}
 use Rattle.ledger.specs.Calls.{Call, postOf, turnTo, lookAt, pageInto, asks}
 use Rattle.journal.specs.Journal.{whole, recordOf, front, decodeFrom, decode, encoded, encode, AreBytes, Fits, AllFit}
 use Rattle.journal.proofs.Decoding.{front-end}
@@ -22,8 +23,9 @@ some-bytes : (c : Call) → Fits c → 0 < length (encoded c)
 unfolding encoded
 some-bytes (postOf s) h = omega arith
 some-bytes (turnTo m) h = omega arith
-some-bytes (asks (lookAt y)) h = omega arith
-some-bytes (asks (pageInto l)) h = absurd h
+some-bytes (asks (lookAt plain y)) h = omega arith
+some-bytes (asks (lookAt adjusted y)) h = absurd h
+some-bytes (asks (pageInto w l)) h = absurd h
 
 reads-back : (c : Call) (rest : List ℕ) → Fits c → front (encoded c ++ rest) ≡ whole c (length (encoded c))
 unfolding encoded front
@@ -33,9 +35,10 @@ reads-back (postOf s) rest h =
     (record-read (encoded (postOf s) ++ rest) (3 + length s) (postOf s) (omega (arith, length-append s rest)) ∙ ap (whole (postOf s)) three)
 reads-back (turnTo m) rest h =
     rw (eqb·suc-zero (suc (suc (length rest))), two-bytes m h) (record-read (encoded (turnTo m) ++ rest) 3 (turnTo m) (omega arith))
-reads-back (asks (lookAt y)) rest h =
-    rw (eqb·suc-zero (suc (length rest))) (record-read (encoded (asks (lookAt y)) ++ rest) 2 (asks (lookAt y)) (omega arith))
-reads-back (asks (pageInto l)) rest h = absurd h
+reads-back (asks (lookAt plain y)) rest h =
+    rw (eqb·suc-zero (suc (length rest))) (record-read (encoded (asks (lookAt plain y)) ++ rest) 2 (asks (lookAt plain y)) (omega arith))
+reads-back (asks (lookAt adjusted y)) rest h = absurd h
+reads-back (asks (pageInto w l)) rest h = absurd h
 
 reads-all : (most : ℕ) (cs : List Call) → AllFit cs → length (encode cs) ≤ most → decodeFrom most (encode cs) ≡ cs
 unfolding decodeFrom
@@ -59,8 +62,9 @@ encoded-bytes : (c : Call) → Fits c → AreBytes (encoded c)
 unfolding encoded
 encoded-bytes (postOf s) h = (omega arith, (omega arith, (omega arith, h .1)))
 encoded-bytes (turnTo m) h = (omega arith, (omega arith, (omega arith, tt)))
-encoded-bytes (asks (lookAt y)) h = (omega arith, (h, tt))
-encoded-bytes (asks (pageInto l)) h = absurd h
+encoded-bytes (asks (lookAt plain y)) h = (omega arith, (h, tt))
+encoded-bytes (asks (lookAt adjusted y)) h = absurd h
+encoded-bytes (asks (pageInto w l)) h = absurd h
 
 pub encode-bytes : (cs : List Call) → AllFit cs → AreBytes (encode cs)
 encode-bytes [] f = tt

@@ -5,6 +5,7 @@ use Prim.Native.Nat.{ℕ, _≤_, _<_}
 use native.Mathlib.Omega.{arith}
 use lib.ListN.{length, getD}
 use borrow.Author.Tests.{le-leb, lt-leb, eq-eqb, ne-eqb}
+use Rattle.method.specs.Units.{plain}
 use Rattle.ledger.specs.Answers as answer
 use Rattle.ledger.specs.Book as ledger
 use Rattle.ledger.specs.Book.{post, turn, lookUp}
@@ -82,9 +83,9 @@ module _ (b : ledger.Book) (s : List ℕ) (n : ℕ) (room : n ≤ length s) (non
       })
 
 module _ (book : Book) (s : List ℕ) (n : ℕ) (room : n ≤ length s) (year : ℕ) (r : Looked) where
-  pub look-made : asOutcome (r .verdict) (asFinding (r .finding)) ≡ lookUp (asBook book) year →
-      asFinding (r .finding) ≡ resultOr noFinding (lookUp (asBook book) year) →
-      MakesFront (asBook book) s (recordOf s n (asks (lookAt year)))
+  pub look-made : asOutcome (r .verdict) (asFinding (r .finding)) ≡ lookUp (asBook book) plain year →
+      asFinding (r .finding) ≡ resultOr noFinding (lookUp (asBook book) plain year) →
+      MakesFront (asBook book) s (recordOf s n (asks (lookAt plain year)))
       (record { reply = LookedAt year; verdict = r .verdict; month = 0; finding = r .finding; taken = n; book = book })
   look-made e f =
       rw (le-leb n (length s) room)

@@ -4,6 +4,7 @@ use mathlib.Core.List.{List, [], _∷_, _++_}
 use Prim.Native.Nat.{ℕ, zero, suc, _+_, _<_}
 use lib.Dec.{leb, eqb}
 use lib.ListN.{length, getD, take, drop}
+use Rattle.method.specs.Units.{plain, adjusted}
 use Rattle.method.specs.Bytes.{bytes2}
 use Rattle.ledger.specs.Calls.{lookAt, pageInto, Call, postOf, turnTo, asks}
 use Rattle.ledger.specs.Tells.{read2}
@@ -42,7 +43,7 @@ turnFront s = recordOf s 3 (turnTo (read2 s 1))
 
 -- a year in one
 abbrev pub lookFront : List ℕ → Front
-lookFront s = recordOf s 2 (asks (lookAt (getD s 1 0)))
+lookFront s = recordOf s 2 (asks (lookAt plain (getD s 1 0)))
 
 unfoldable pub front : List ℕ → Front
 front s =
@@ -68,13 +69,14 @@ decodeFrom (suc most) s = andThen (front s) (decodeFrom most) s
 unfoldable pub decode : List ℕ → List Call
 decode s = decodeFrom (length s) s
 
--- ---- the other way: a call as bytes. A page, which leaves the book as it is, is not written
+-- ---- the other way: a call as bytes. A page and a look-up of the adjusted curve, which leave the book as it is, are not written
 
 unfoldable pub encoded : Call → List ℕ
 encoded (postOf s) = 0x50 ∷ bytes2 (length s) ++ s
 encoded (turnTo m) = 0x4D ∷ bytes2 m
-encoded (asks (lookAt y)) = 0x4C ∷ y ∷ []
-encoded (asks (pageInto l)) = []
+encoded (asks (lookAt plain y)) = 0x4C ∷ y ∷ []
+encoded (asks (lookAt adjusted y)) = []
+encoded (asks (pageInto w l)) = []
 
 abbrev pub encode : List Call → List ℕ
 encode [] = []
@@ -89,8 +91,9 @@ AreBytes (b ∷ bs) = (b < 256) × AreBytes bs
 abbrev pub Fits : Call → Type 0
 Fits (postOf s) = (length s < 65_536) × AreBytes s
 Fits (turnTo m) = m < 65_536
-Fits (asks (lookAt y)) = y < 256
-Fits (asks (pageInto l)) = ⊥
+Fits (asks (lookAt plain y)) = y < 256
+Fits (asks (lookAt adjusted y)) = ⊥
+Fits (asks (pageInto w l)) = ⊥
 
 abbrev pub AllFit : List Call → Type 0
 AllFit [] = Unit {0}

@@ -18,8 +18,8 @@ pub data Reply : Type 0 where
 abbrev pub replyTo : Book → Front → Reply
 replyTo b (whole (postOf s) n) = posted (post b s .answer)
 replyTo b (whole (turnTo m) n) = turned (turn b m .answer)
-replyTo b (whole (asks (lookAt y)) n) = looked y (lookUp b y)
-replyTo b (whole (asks (pageInto l)) n) = notKnown
+replyTo b (whole (asks (lookAt w y)) n) = looked y (lookUp b w y)
+replyTo b (whole (asks (pageInto w l)) n) = notKnown
 replyTo b cut = cutShort
 replyTo b unknown = notKnown
 

@@ -2,6 +2,7 @@
 use big_endian::two_bytes;
 use book::Book;
 use book::Finding;
+use book::Which;
 use grounds::Verdict;
 ghost use Rattle.book.specs.Views.{asBook};
 ghost use Rattle.journal.specs.Journal.{postFront, turnFront, lookFront};
@@ -91,7 +92,7 @@ fn make_look(book: Book, rest: &[u8]) -> Made
         return no_call(book, Reply::CutShort);
     }
     let year = big_endian::wide(rest[1]);
-    let looked = book::look_up(book, year);
+    let looked = book::look_up(book, Which::Plain, year);
     let verdict = looked.verdict;
     let finding = looked.finding;
     Made {

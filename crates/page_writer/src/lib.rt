@@ -20,18 +20,18 @@ fn put_head(month: u64, age: u64, out: &mut [u8])
 
 // ---- one year more
 
-fn put_record(year: u64, low: u64, high: u64, bytes: &mut [u8])
+fn put_record(year: u64, low: u32, high: u32, bytes: &mut [u8])
     requires { ⌜ (year < 256) × (length (now bytes) ≡ 10) ⌝ }
     ensures { λ _. ⌜ now (bytes .exit) ≡ yearRecord year low high ⌝ }
 {
     put(0x59, 1, 0, bytes);
     put(year, 1, 1, bytes);
-    put(low, 4, 2, bytes);
-    put(high, 4, 6, bytes);
+    put(low as u64, 4, 2, bytes);
+    put(high as u64, 4, 6, bytes);
 }
 
 // The record of the year after t, where years 1 to t are written.
-fn put_next_year<'a>(lows: &'a [u64], highs: &'a [u64], t: usize, out: &mut [u8])
+fn put_next_year<'a>(lows: &'a [u32], highs: &'a [u32], t: usize, out: &mut [u8])
     requires { ⌜ (t < 150) × Bands (now lows) (now highs) ⌝ }
     requires { ⌜ (pageLength ≤ length (now out)) × Underway t (now lows) (now highs) (now out) ⌝ }
     ensures { λ _. ⌜ OneYearOn t (now (lows .entry)) (now (highs .entry)) (now (out .entry)) (now (out .exit)) ⌝ }
@@ -46,8 +46,8 @@ fn put_next_year<'a>(lows: &'a [u64], highs: &'a [u64], t: usize, out: &mut [u8]
 pub fn write_to<'a>(
     month: u64,
     age: u64,
-    lows: &'a [u64],
-    highs: &'a [u64],
+    lows: &'a [u32],
+    highs: &'a [u32],
     t: usize,
     out: &mut [u8],
 )

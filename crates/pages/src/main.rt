@@ -1,42 +1,48 @@
-// Replays the journal of standard input on books with age limits of 5,000, 3 and 2 months, and pages each into the first 0, 1,504,
-// 1,505 and 2,000 bytes of 2,000 lent sevens: writes the ground's number, or 0, and all 2,000 bytes. Then, of one more page, all bytes
-// of 1,506 lent sevens once years 1 to t are written, t being 0, 1, 2, 75, 149 and 150. The file `stdout` is what the second
-// implementation writes.
+// Replays the journal of standard input on books with age limits of 5,000, 3 and 2 months, and pages the plain curve of each, then the
+// adjusted one, into the first 0, 1,504, 1,505 and 2,000 bytes of 2,000 lent sevens: writes the ground's number, or 0, and all 2,000
+// bytes. Then, of one more page, all bytes of 1,506 lent sevens once years 1 to t are written, t being 0, 1, 2, 75, 149 and 150. The
+// file `stdout` is what the second implementation writes.
+use book::Which;
 use libc::STDIN_FILENO;
 use libc::STDOUT_FILENO;
 ghost use Prim.Native.Nat.{_≤_};
 
 // No multiple of it up to 150 times has two equal bytes, so that their order shows.
-const MULTIPLE: u64 = 0x0102_0304;
+const MULTIPLE: u32 = 0x0102_0304;
 
-fn show(age_limit: u64, calls: &[u8], lent: &mut [u8], length: usize) {
+fn show(age_limit: u64, calls: &[u8], which: Which, lent: &mut [u8], length: usize) {
     if lent.len() < length {
         return;
     }
-    let verdict = replay::page_after(age_limit, calls, &mut lent[..length]);
+    let verdict = replay::page_after(age_limit, calls, which, &mut lent[..length]);
     io::print_decimal(STDOUT_FILENO, grounds::number(verdict));
     io::write_all(STDOUT_FILENO, b"\n");
     io::write_all(STDOUT_FILENO, lent);
 }
 
-fn page_into(age_limit: u64, calls: &[u8], length: usize) {
+fn page_into(age_limit: u64, calls: &[u8], which: Which, length: usize) {
     let mut lent = [7u8; 2_000];
-    show(age_limit, calls, &mut lent, length);
+    show(age_limit, calls, which, &mut lent, length);
+}
+
+fn pages_of(age_limit: u64, calls: &[u8], which: Which) {
+    page_into(age_limit, calls, which, 0);
+    page_into(age_limit, calls, which, 1_504);
+    page_into(age_limit, calls, which, 1_505);
+    page_into(age_limit, calls, which, 2_000);
 }
 
 fn pages(age_limit: u64, calls: &[u8]) {
-    page_into(age_limit, calls, 0);
-    page_into(age_limit, calls, 1_504);
-    page_into(age_limit, calls, 1_505);
-    page_into(age_limit, calls, 2_000);
+    pages_of(age_limit, calls, Which::Plain);
+    pages_of(age_limit, calls, Which::Adjusted);
 }
 
 // Of years 1 to 150.
-fn multiples(of: u64) -> [u64; 150]
+fn multiples(of: u32) -> [u32; 150]
     requires { ⌜ of ≤ 16_909_061 ⌝ }
 {
-    let mut numbers = [0u64; 150];
-    let mut last: u64 = 0;
+    let mut numbers = [0u32; 150];
+    let mut last: u32 = 0;
     for i in 0..150 {
         last += of;
         numbers[i] = last;

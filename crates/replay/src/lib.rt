@@ -4,22 +4,22 @@ use big_endian::twos_complement;
 use book::Book;
 use book::Finding;
 use book::Looked;
+use book::Which;
 use grounds::Verdict;
 use journal::Reply;
 ghost use mathlib.Core.Path.{_≡_};
 ghost use mathlib.Core.List.{_++_};
 ghost use Prim.Native.Nat.{_+_, _*_, _≤_};
 ghost use lib.ListN.{length, drop};
-ghost use Rattle.ledger.specs.Book.{lookUp, page};
 ghost use Rattle.ledger.specs.Calls.{lookAt, pageInto};
-ghost use Rattle.ledger.specs.Count.{count};
 ghost use Rattle.ledger.specs.Tells.{Tells};
 ghost use Rattle.ledger.specs.Demands.{Demand3};
 ghost use Rattle.grounds.specs.Verdicts.{asOutcome, resultOr, verdictNumber, verdictPlace};
-ghost use Rattle.book.specs.Views.{asBook, asFinding, noFinding, asPaged};
+ghost use Rattle.book.specs.Views.{asWhich, asBook, asFinding, noFinding, asPaged};
 ghost use Rattle.journal.specs.Journal.{front, decode};
 ghost use Rattle.journal.specs.Replies.{replyTo};
-ghost use Rattle.replay.specs.Returned.{bookAfter, foundBytes, returned, lookReturned, pageReturned, replied};
+ghost use Rattle.replay.specs.Returned.{bookAfter, lookAfter, pageAfter, countOf, byKind, foundBytes};
+ghost use Rattle.replay.specs.Returned.{returned, lookReturned, pageReturned, replied};
 
 // Makes all calls, from a fresh book of this age limit on.
 fn replay(age_limit: u64, calls: &[u8]) -> Book
@@ -40,24 +40,34 @@ fn replay(age_limit: u64, calls: &[u8]) -> Book
 }
 
 // What a look-up answers after these calls.
-pub fn look_after(age_limit: u64, calls: &[u8], year: u64) -> Looked
-    ensures outcome { λ r. ⌜ asOutcome (r .verdict) (asFinding (r .finding)) ≡ lookUp (bookAfter «age_limit» (now (calls .entry))) year ⌝ }
-    ensures beside { λ r. ⌜ asFinding (r .finding) ≡ resultOr noFinding (lookUp (bookAfter «age_limit» (now (calls .entry))) year) ⌝ }
-    ensures told { λ r. ⌜ Tells «age_limit» (count (decode (now (calls .entry)))) (lookAt year) (asOutcome (r .verdict) (asFinding (r .finding))) ⌝ }
+pub fn look_after(age_limit: u64, calls: &[u8], which: Which, year: u64) -> Looked
+    ensures outcome { λ r. ⌜ asOutcome (r .verdict) (asFinding (r .finding)) ≡ lookAfter «age_limit» (now (calls .entry)) (asWhich which) year ⌝ }
+    ensures beside { λ r. ⌜ asFinding (r .finding) ≡ resultOr noFinding (lookAfter «age_limit» (now (calls .entry)) (asWhich which) year) ⌝ }
+    ensures told { λ r. ⌜ Tells «age_limit» (countOf (now (calls .entry))) (lookAt (asWhich which) year) (asOutcome (r .verdict) (asFinding (r .finding))) ⌝ }
 {
-    book::look_up(replay(age_limit, calls), year)
+    book::look_up(replay(age_limit, calls), which, year)
 }
 
 // The page after these calls, written into a lent buffer.
-pub fn page_after(age_limit: u64, calls: &[u8], out: &mut [u8]) -> Verdict
-    ensures paged { λ r. ⌜ asPaged r (now (out .exit)) ≡ page (bookAfter «age_limit» (now (calls .entry))) (now (out .entry)) ⌝ }
-    ensures told { λ r. ⌜ Tells «age_limit» (count (decode (now (calls .entry)))) (pageInto (now (out .entry))) (asPaged r (now (out .exit))) ⌝ }
+pub fn page_after(age_limit: u64, calls: &[u8], which: Which, out: &mut [u8]) -> Verdict
+    ensures paged { λ r. ⌜ asPaged r (now (out .exit)) ≡ pageAfter «age_limit» (now (calls .entry)) (asWhich which) (now (out .entry)) ⌝ }
+    ensures told { λ r. ⌜ Tells «age_limit» (countOf (now (calls .entry))) (pageInto (asWhich which) (now (out .entry))) (asPaged r (now (out .exit))) ⌝ }
 {
     let book = replay(age_limit, calls);
-    book::page(book, out)
+    book::page(book, which, out)
 }
 
 // ---- the same for programs in C
+
+// Bit 0 names the adjusted curve; all others are ignored.
+fn which_by(kind: u64) -> Which
+    ensures { λ r. ⌜ asWhich r ≡ byKind kind ⌝ }
+{
+    if kind % 2 == 1 {
+        return Which::Adjusted;
+    }
+    Which::Plain
+}
 
 // A look-up's reply: each number straight to its own bytes.
 fn put_found(f: Finding, out: &mut [u8])
@@ -85,13 +95,14 @@ fn packed(verdict: Verdict) -> u64
 pub extern "C" fn tuyqorem_look_after(
     age_limit: u64,
     calls: &[u8],
+    kind: u64,
     year: u64,
     out: &mut [u8],
 ) -> u64
-    ensures returned { λ r. ⌜ returned r (now (out .exit)) ≡ lookReturned (lookUp (bookAfter «age_limit» (now (calls .entry))) year) (now (out .entry)) ⌝ }
+    ensures returned { λ r. ⌜ returned r (now (out .exit)) ≡ lookReturned (lookAfter «age_limit» (now (calls .entry)) (byKind kind) year) (now (out .entry)) ⌝ }
     ensures told { λ _. ⌜ Demand3 «age_limit» (decode (now (calls .entry))) ⌝ }
 {
-    let looked = look_after(age_limit, calls, year);
+    let looked = look_after(age_limit, calls, which_by(kind), year);
     let verdict = looked.verdict;
     let Verdict::Passed = verdict else {
         return packed(verdict);
@@ -105,11 +116,16 @@ pub extern "C" fn tuyqorem_look_after(
 }
 
 #[no_mangle]
-pub extern "C" fn tuyqorem_page_after(age_limit: u64, calls: &[u8], out: &mut [u8]) -> u64
-    ensures returned { λ r. ⌜ returned r (now (out .exit)) ≡ pageReturned (page (bookAfter «age_limit» (now (calls .entry))) (now (out .entry))) ⌝ }
+pub extern "C" fn tuyqorem_page_after(
+    age_limit: u64,
+    calls: &[u8],
+    kind: u64,
+    out: &mut [u8],
+) -> u64
+    ensures returned { λ r. ⌜ returned r (now (out .exit)) ≡ pageReturned (pageAfter «age_limit» (now (calls .entry)) (byKind kind) (now (out .entry))) ⌝ }
     ensures told { λ _. ⌜ Demand3 «age_limit» (decode (now (calls .entry))) ⌝ }
 {
-    packed(page_after(age_limit, calls, out))
+    packed(page_after(age_limit, calls, which_by(kind), out))
 }
 
 // The answer of one more call, the first record of `call`; 255 where that is no whole record.

@@ -28,11 +28,17 @@ mul-low c = search needs
 element-copy-out-low : tie.Need-element-copy-out-low
 element-copy-out-low c = search needs
 
+cast-low : tie.Need-cast-low
+cast-low c = search needs
+
 mul-high : tie.Need-mul-high
 mul-high c = search needs
 
 element-copy-out-high : tie.Need-element-copy-out-high
 element-copy-out-high c = search needs
+
+cast-high : tie.Need-cast-high
+cast-high c = search needs
 
 zero-rates-requires : tie.Need-zero-rates-requires
 zero-rates-requires c κs = search needs
@@ -88,8 +94,10 @@ found-spec =
     sub-i
     mul-low
     element-copy-out-low
+    cast-low
     mul-high
     element-copy-out-high
+    cast-high
     zero-rates-requires
     enum-told
     enum-told-2

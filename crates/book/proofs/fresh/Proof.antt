@@ -9,8 +9,11 @@ smaller-requires c κs = search needs
 no-curve-requires : tie.Need-no-curve-requires
 no-curve-requires c κs = search needs
 
+no-curve-requires-2 : tie.Need-no-curve-requires-2
+no-curve-requires-2 c κs = search needs
+
 returns : tie.Need-returns
-returns c = rw (c .before .smaller .ensures)
+returns c = rw (c .before .before .smaller .ensures)
 
 pub fresh-spec : {M : Type 1} → statement M
-fresh-spec = tie.close (tie.spec smaller-requires no-curve-requires returns)
+fresh-spec = tie.close (tie.spec smaller-requires no-curve-requires no-curve-requires-2 returns)

@@ -4,8 +4,8 @@ use native.Mathlib.Omega.{arith}
 use Rattle.ledger.proofs.Asked.{look-outside, look-open, look-closed}
 use Rattle.grounds.specs.Verdicts.{resultOr}
 use Rattle.grounds.proofs.Chain.{refused-alone}
-use Rattle.curve.specs.Curves.{asCurve}
-use Rattle.book.specs.Views.{asStanding, noFinding}
+use Rattle.curve.specs.Curves.{asCurve, asHeld}
+use Rattle.book.specs.Views.{noFinding}
 use Rattle.book.proofs.Booking.{asked}
 use borrow.Author.Needs.{needs}
 use Rattle.book.proofs.look_in.Statement.{statement}
@@ -17,7 +17,7 @@ not-found-requires c κs = search needs
 returns : tie.Need-returns
 returns c =
     let a = c .before .before .args in
-    let below = look-outside (asStanding (a .has) (a .curve)) (a .told) (a .age-limit) (a .year) (λ h k. omega (arith, h, c .before .if1 .taken)) in
+    let below = look-outside (asHeld (a .has) (a .curve)) (a .told) (a .age-limit) (a .year) (λ h k. omega (arith, h, c .before .if1 .taken)) in
     refused-alone (c .not-found .ensures .0) refl (c .not-found .ensures .1) below
 
 not-found-requires-2 : tie.Need-not-found-requires-2
@@ -26,7 +26,7 @@ not-found-requires-2 c κs = search needs
 returns-2 : tie.Need-returns-2
 returns-2 c =
     let a = c .before .before .before .args in
-    let above = look-outside (asStanding (a .has) (a .curve)) (a .told) (a .age-limit) (a .year) (λ h k. omega (arith, k, c .before .if2 .taken)) in
+    let above = look-outside (asHeld (a .has) (a .curve)) (a .told) (a .age-limit) (a .year) (λ h k. omega (arith, k, c .before .if2 .taken)) in
     refused-alone (c .not-found2 .ensures .0) refl (c .not-found2 .ensures .1) above
 
 opens-requires : tie.Need-opens-requires

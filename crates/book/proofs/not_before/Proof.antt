@@ -4,7 +4,7 @@ use Rattle.book.proofs.not_before.Statement.{statement}
 use Rattle.book.proofs.not_before.Tie as tie
 
 returns : tie.Need-returns
-returns c = rw (c .before .if1 .taken)
+returns c = rw (c .if1 .taken)
 
 returns-2 : tie.Need-returns-2
 returns-2 c = search needs

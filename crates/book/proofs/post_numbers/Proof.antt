@@ -7,7 +7,7 @@ use Rattle.grounds.specs.Verdicts.{resultOr}
 use Rattle.grounds.proofs.Chain.{at-verdict}
 use Rattle.sheet.specs.Views.{asNumbers}
 use Rattle.book.specs.Views.{asBook}
-use Rattle.book.proofs.Booking.{down, so, not-so, after-told, before-standing, curve-refused, curve-worked}
+use Rattle.book.proofs.Booking.{down, so, not-so, order-is, after-told, before-standing, curve-refused, curve-worked}
 use borrow.Author.Needs.{needs}
 use Rattle.book.proofs.post_numbers.Statement.{statement}
 use Rattle.book.proofs.post_numbers.Tie as tie
@@ -15,7 +15,7 @@ use Rattle.book.proofs.post_numbers.Tie as tie
 -- both months fit
 module _ (m : tie.Else2) where
   abbrev at-month : tie.Else1
-  at-month = m .before .before .before
+  at-month = m .before .before
 
   abbrev start : tie.Start
   start = at-month .before .before .before
@@ -24,7 +24,10 @@ module _ (m : tie.Else2) where
   reached = at-month .if1 .left
 
   in-order : notBefore (asBook (start .args .book) .standing) (start .args .n .month) ≡ true
-  in-order = sym (m .before .not-before .ensures) ∙ so (m .before .not-before .result) (m .if2 .left)
+  in-order =
+      sym (order-is (start .args .book .has) (start .args .book .curves) (start .args .n .month))
+      ∙ sym (m .before .not-before .ensures)
+      ∙ so (m .before .not-before .result) (m .if2 .left)
 
 turned-down-requires : tie.Need-turned-down-requires
 turned-down-requires c κs = search needs
@@ -44,9 +47,10 @@ turned-down-requires-2 c κs = search needs
 returns-2 : tie.Need-returns-2
 returns-2 c =
     let at-order = c .before .before in
-    let at-month = at-order .before .before in
+    let at-month = at-order .before in
     let a = at-month .before .before .before .args in
-    let order = sym (at-order .not-before .ensures) ∙ not-so (at-order .not-before .result) (c .before .if2 .taken) in
+    let standing = order-is (a .book .has) (a .book .curves) (a .n .month) in
+    let order = sym standing ∙ sym (at-order .not-before .ensures) ∙ not-so (at-order .not-before .result) (c .before .if2 .taken) in
     down (c .turned-down2 .ensures) refl (before-standing (asBook (a .book)) (asNumbers (a .n)) (at-month .if1 .left) order)
 
 from-numbers-requires : tie.Need-from-numbers-requires

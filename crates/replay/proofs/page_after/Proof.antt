@@ -6,6 +6,7 @@ use Rattle.ledger.specs.Calls.{pageInto}
 use Rattle.ledger.specs.Count.{count}
 use Rattle.ledger.specs.Tells.{PageTells}
 use Rattle.ledger.proofs.Theorem.{demand-3}
+use Rattle.book.specs.Views.{asWhich}
 use Rattle.journal.specs.Journal.{decode}
 use borrow.Author.Needs.{needs}
 use Rattle.replay.proofs.page_after.Statement.{statement}
@@ -27,8 +28,9 @@ returns c =
     let a = at-replay .before .before .before .args in
     let cs = decode (now (a .calls)) in
     let lent = now (a .out) in
-    let paged = at-page .page .ensures ∙ ap (λ (b : Book). page b lent) (at-replay .replay .ensures) in
-    (paged, subst⁻¹ (λ (p : Paged). PageTells (a .age-limit) (count cs) lent p) paged (demand-3 (a .age-limit) cs (pageInto lent)))
+    let w = asWhich (a .which) in
+    let paged = at-page .page .ensures ∙ ap (λ (b : Book). page b w lent) (at-replay .replay .ensures) in
+    (paged, subst⁻¹ (λ (p : Paged). PageTells (a .age-limit) (count cs) w lent p) paged (demand-3 (a .age-limit) cs (pageInto w lent)))
 
 pub page-after-spec : {M : Type 1} → statement M
 page-after-spec = tie.close (tie.spec replay-requires page-requires same-length returns)

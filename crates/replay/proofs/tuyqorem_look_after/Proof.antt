@@ -1,15 +1,36 @@
 -- The answer as one number; a finding in 28 bytes where there is room.
+use mathlib.Core.Path.{_≡_, ap, _∙_}
 use denote.Ref.{now}
+use Rattle.method.specs.Units.{Which}
+use Rattle.ledger.specs.Book.{lookUp}
 use Rattle.ledger.specs.Calls.{lookAt, asks, run}
 use Rattle.ledger.proofs.Places.{answer-place}
 use Rattle.ledger.proofs.Theorem.{demand-3}
+use Rattle.grounds.specs.Verdicts.{asOutcome}
 use Rattle.grounds.proofs.Chain.{at-verdict}
 use Rattle.book.specs.Views.{asFinding}
 use Rattle.journal.specs.Journal.{decode}
+use Rattle.replay.specs.Returned.{bookAfter, byKind}
 use Rattle.replay.proofs.Returning.{place-small, look-refused, look-short, look-found}
 use borrow.Author.Needs.{needs}
 use Rattle.replay.proofs.tuyqorem_look_after.Statement.{statement}
 use Rattle.replay.proofs.tuyqorem_look_after.Tie as tie
+
+module _ (l : tie.After-look-after) where
+  abbrev start : tie.Start
+  start = l .before .before .before .before
+
+  -- of the curve that `kind` names
+  looked-is :
+      let a = start .args in
+      asOutcome (l .look-after .result .verdict) (asFinding (l .look-after .result .finding))
+      ≡ lookUp (bookAfter (a .age-limit) (now (a .calls))) (byKind (a .kind)) (a .year)
+  looked-is =
+      let a = start .args in
+      l .look-after .ensures .0 ∙ ap (λ (w : Which). lookUp (bookAfter (a .age-limit) (now (a .calls))) w (a .year)) (l .before .which-by .ensures)
+
+which-by-requires : tie.Need-which-by-requires
+which-by-requires c κs = search needs
 
 look-after-requires : tie.Need-look-after-requires
 look-after-requires c κs = search needs
@@ -23,24 +44,24 @@ enum-told-2 c = search needs
 packed-requires : tie.Need-packed-requires
 packed-requires c κs =
     let at-look = c .before .before in
-    let a = at-look .before .before .before .args in
-    let looked = at-look .look-after in
-    place-small (looked .result .verdict) (asFinding (looked .result .finding)) (looked .ensures .0)
-    (answer-place (run (a .age-limit) (decode (now (a .calls)))) (asks (lookAt (a .year))))
+    let a = start at-look .args in
+    let looked = at-look .look-after .result in
+    place-small (looked .verdict) (asFinding (looked .finding)) (looked-is at-look)
+    (answer-place (run (a .age-limit) (decode (now (a .calls)))) (asks (lookAt (byKind (a .kind)) (a .year))))
 
 returns : tie.Need-returns
 returns c =
     let at-look = c .before .before .before in
-    let a = at-look .before .before .before .args in
+    let a = start at-look .args in
     let told = c .before .enum-told2 .given .1 in
-    let refusal = at-verdict _ told (at-look .look-after .ensures .0) in
+    let refusal = at-verdict _ told (looked-is at-look) in
     (look-refused (now (a .out)) told refusal (c .packed .ensures), demand-3 (a .age-limit) (decode (now (a .calls))))
 
 returns-2 : tie.Need-returns-2
 returns-2 c =
     let at-look = c .before .before .before in
-    let a = at-look .before .before .before .args in
-    let found = at-verdict _ (c .before .enum-told .given .1) (at-look .look-after .ensures .0) in
+    let a = start at-look .args in
+    let found = at-verdict _ (c .before .enum-told .given .1) (looked-is at-look) in
     (look-short (now (a .out)) _ found (c .if1 .taken), demand-3 (a .age-limit) (decode (now (a .calls))))
 
 put-found-requires : tie.Need-put-found-requires
@@ -55,14 +76,15 @@ returns-3 c =
     let at-room = at-put .before .before .before in
     let at-told = at-room .before in
     let at-look = at-told .before .before in
-    let a = at-look .before .before .before .args in
-    let found = at-verdict _ (at-told .enum-told .given .1) (at-look .look-after .ensures .0) in
+    let a = start at-look .args in
+    let found = at-verdict _ (at-told .enum-told .given .1) (looked-is at-look) in
     (look-found (now (a .out)) _ found _ (at-put .put-found .ensures) (at-room .if1 .left), demand-3 (a .age-limit) (decode (now (a .calls))))
 
 pub tuyqorem-look-after-spec : {M : Type 1} → statement M
 tuyqorem-look-after-spec =
     tie.close
     (tie.spec
+    which-by-requires
     look-after-requires
     enum-told
     enum-told-2
