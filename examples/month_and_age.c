@@ -26,7 +26,7 @@ int main(int argc, char **argv) {
     }
     if (calls == NULL) return 1;
     static uint8_t page[1505];
-    uint64_t refused = tuyqorem_page_after(age_limit, calls, held, page, sizeof page);
+    uint64_t refused = tuyqorem_page_after(age_limit, calls, held, 0, page, sizeof page);
     free(calls);
     if (refused) {
         printf("refused: %u\n", (unsigned)refused);

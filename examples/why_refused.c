@@ -11,7 +11,7 @@
 /* The grounds of docs/SPECIFICATION.md, section 9; a record can meet 1 to 14, 16 and 17. */
 static const char *const reasons[] = {
     "",
-    "the sheet's length is neither 109 nor 112",
+    "the sheet's length is none of 109, 112 and 115",
     "a record's kind or maturity is not the one due",
     "a number is outside its range",
     "no volume is above 0",

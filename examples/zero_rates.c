@@ -1,4 +1,4 @@
-/* Prints the annual zero rates of the curve that a journal leaves, low and high, a line a year; or why there are none:
+/* Prints the annual zero rates of the plain curve that a journal leaves, low and high, a line a year; or why there are none:
  * zero_rates [AGE_LIMIT] < journal
  * The limit is in months, and the largest, 2,399, where none is given.
  * Build: rt staticlib replay && cc -Iinclude examples/zero_rates.c target/staticlib/libreplay.a -o zero_rates
@@ -29,7 +29,7 @@ int main(int argc, char **argv) {
     if (!read_journal(&held)) return 1;
     for (unsigned year = 1; year <= 150; year++) {
         uint8_t found[28];
-        uint64_t refused = tuyqorem_look_after(age_limit, journal, held, year, found, sizeof found);
+        uint64_t refused = tuyqorem_look_after(age_limit, journal, held, 0, year, found, sizeof found);
         printf("%u", year);
         if (refused) {
             printf(" refused: %u", (unsigned)refused);

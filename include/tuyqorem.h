@@ -11,15 +11,22 @@
  * curve that is older than the limit is turned away with 16 and not shown. The book still holds it: posts and turns are
  * answered as with any other limit.
  *
- * This is the interface from the zero rates (U3) on: a look-up's reply has 28 bytes, and had 12. Later ones insert parameters,
- * so a program is compiled with the header of the library that it is linked with. From U5 on a sheet's volume of 0 at 25, 30, 40
- * or 50 years drops the quote of that maturity; no function has changed for it.
+ * A sheet has 109, 112 or 115 bytes: it may end with a record for the phase-in (0x06, 3 bytes), one for the volatility
+ * adjustment (0x07, 3 bytes), or both in this order. With an adjustment, be it 0, a post works two curves, the plain one and
+ * the adjusted one, and is turned down as a whole where either fails. Look-ups and pages name their curve by kind: the adjusted
+ * one where bit 0 is set, else the plain one; all other bits are ignored. A look-up in a journal is of the plain curve.
  *
- * It is proved of tuyqorem_look_after and tuyqorem_page_after, for every age limit and every journal: no curve is found
- * exactly when no post of the journal was accepted; a curve older than the limit answers 16; otherwise month and age are
- * those of the last accepted sheet and turn, and each band is within that sheet's limit and holds the true factor of every
- * order. A look-up's rates are the largest and the smallest of their rule (docs/SPECIFICATION.md, 7.1), and the true curve's
- * own rate of every order lies between them; a look-up answers 17 exactly when there is no high rate.
+ * This is the interface from the volatility adjustment (U6) on: tuyqorem_look_after and tuyqorem_page_after have the parameter
+ * kind, and had not; a look-up's reply has 28 bytes, and had 12 before U3. So a program is compiled with the header of the
+ * library that it is linked with. Later ones give another bit of kind a meaning: a program leaves those without one at 0. From
+ * U5 on a sheet's volume of 0 at 25, 30, 40 or 50 years drops the quote of that maturity; no function has changed for it.
+ *
+ * It is proved of tuyqorem_look_after and tuyqorem_page_after, for every age limit, every journal and every kind: no curve is
+ * found exactly when no post of the journal was accepted or, for the adjusted one, when the last accepted sheet had no
+ * adjustment; a curve older than the limit answers 16; otherwise month and age are those of the last accepted sheet and turn,
+ * and each band is within that sheet's limit and holds the true factor of every order, on the curve that is named. A look-up's
+ * rates are the largest and the smallest of their rule (docs/SPECIFICATION.md, 7.1), and the true curve's own rate of every
+ * order lies between them; a look-up answers 17 exactly when there is no high rate.
  *
  * It is proved of tuyqorem_answer_after, for every age limit, every journal and every call: the answer is exactly the one
  * that the definitions give to that call on the book of the journal.
@@ -36,19 +43,21 @@
 extern "C" {
 #endif
 
-/* The band of a year and its zero rates after the journal's calls. Returns 0 and writes 28 bytes to out: low (8), high (8),
- * sheet month (2), age in months (2), low rate (4), high rate (4), high byte first. A factor is in billionths; a rate is in
- * hundred-thousandths of one, 3,000 being 3%, in two's complement, from -50,000 to 100,000. The bytes of out past them are
- * kept. Otherwise out is left as it was and the answer is, tried in this order, 13 (the year is not 1 to 150), 14 (no curve),
- * 16 (the curve is older than the age limit), 17 (no high rate up to 100,000 exists) or 15 (out has fewer than 28 bytes). */
-uint64_t tuyqorem_look_after(uint64_t age_limit, const uint8_t *calls, size_t calls_len, uint64_t year, uint8_t *out,
-                             size_t out_len);
+/* The band of a year and its zero rates after the journal's calls, on the curve that kind names. Returns 0 and writes 28 bytes
+ * to out: low (8), high (8), sheet month (2), age in months (2), low rate (4), high rate (4), high byte first. A factor is in
+ * billionths; a rate is in hundred-thousandths of one, 3,000 being 3%, in two's complement, from -50,000 to 100,000. The bytes
+ * of out past them are kept. Otherwise out is left as it was and the answer is, tried in this order, 13 (the year is not 1 to
+ * 150), 14 (no curve, or the adjusted one is named and the sheet had no adjustment), 16 (the curve is older than the age limit),
+ * 17 (no high rate up to 100,000 exists) or 15 (out has fewer than 28 bytes). */
+uint64_t tuyqorem_look_after(uint64_t age_limit, const uint8_t *calls, size_t calls_len, uint64_t kind, uint64_t year,
+                             uint8_t *out, size_t out_len);
 
-/* The page after the journal's calls. Returns 0 and writes 1,505 bytes to out: 0x48, sheet month (2), age (2); then for
- * years 1 to 150 0x59, year (1), low (4), high (4). The bytes of out past them are kept. Otherwise out is left as it was
- * and the answer is, tried in this order, 14 (no curve), 16 (the curve is older than the age limit) or 15 (out has fewer
- * than 1,505 bytes). */
-uint64_t tuyqorem_page_after(uint64_t age_limit, const uint8_t *calls, size_t calls_len, uint8_t *out, size_t out_len);
+/* The page of the curve that kind names after the journal's calls. Returns 0 and writes 1,505 bytes to out: 0x48, sheet month
+ * (2), age (2); then for years 1 to 150 0x59, year (1), low (4), high (4). The bytes of out past them are kept. Otherwise out
+ * is left as it was and the answer is, tried in this order, 14 (no curve, or the adjusted one is named and the sheet had no
+ * adjustment), 16 (the curve is older than the age limit) or 15 (out has fewer than 1,505 bytes). */
+uint64_t tuyqorem_page_after(uint64_t age_limit, const uint8_t *calls, size_t calls_len, uint64_t kind, uint8_t *out,
+                             size_t out_len);
 
 /* The answer that one more call gets after the journal's calls: for programs that keep a journal and must say why a sheet
  * was turned down. The call is the first record of call, written as in a journal; the bytes past it are ignored. Returns

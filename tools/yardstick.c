@@ -5,7 +5,7 @@
  * Every number fits in 64 bits. A factor is at most 2 U by ground 8, and at most 2 U x 1.1^10 inside a trial of ten years,
  * so that its product with a yearly factor stays below 6 x 10^18. Over dropped maturities a trial runs for up to thirty
  * years, to 2 U x 1.1^30; its products are worked in two parts. A swap's value stays below 10^16, and the weighed sum of
- * forwards below 2 x 10^16. */
+ * forwards below 2 x 10^16. Before it is tried, an adjusted factor is at most 2 U x e^0.1. */
 #include <math.h>
 #include <stdbool.h>
 #include <stdint.h>
@@ -15,7 +15,10 @@
 #define RATE_UNIT INT64_C(100000)
 #define PAR (RATE_UNIT * U)
 
-enum { SHEET = 109, SHEET_WITH_X = 112, QUOTES = 17, VOLUMES = 5, SMOOTHING = 20, LAST_QUOTE = 50, YEARS = 150, LAST_MONTH = 2399 };
+/* A sheet's bytes without a tail, and those of each record that a tail may have. */
+enum { SHEET = 109, TAIL_RECORD = 3 };
+
+enum { QUOTES = 17, VOLUMES = 5, SMOOTHING = 20, LAST_QUOTE = 50, YEARS = 150, LAST_MONTH = 2399 };
 
 static const int maturities[QUOTES] = {1, 2, 3, 4, 5, 6, 7, 8, 9, 10, 12, 15, 20, 25, 30, 40, 50};
 static const int volume_maturities[VOLUMES] = {20, 25, 30, 40, 50};
@@ -36,14 +39,19 @@ typedef struct {
 } Ground;
 
 typedef struct {
-    int month, rates[QUOTES], ufr, x;
+    int month, rates[QUOTES], ufr, x, adjustment;
     int64_t volumes[VOLUMES], limit;
+    bool is_adjusted; /* whether it has an adjustment, be it 0 */
 } Sheet;
 
 typedef struct {
-    int told, month;
-    bool has_curve;
     Pair factors[YEARS + 1]; /* by year; 0 is not used */
+} Curve;
+
+typedef struct {
+    int told, month;
+    bool has_curve, has_adjusted;
+    Curve plain, adjusted;
 } Book;
 
 static const Ground none = {0, 0};
@@ -89,11 +97,29 @@ static int rate_start(int j) { return 3 + 4 * j; }
 
 static int volume_start(int j) { return 71 + 6 * j; }
 
-enum { UFR_START = 101, LIMIT_START = 104, X_START = 109 };
+enum { UFR_START = 101, LIMIT_START = 104 };
+
+/* Where the records of the tail start; 0 where the sheet has none. */
+typedef struct {
+    int x, adjustment;
+} Tail;
+
+/* One record alone is the adjustment's if its kind says so, and else the phase-in's. */
+static Tail tail(const uint8_t *bytes, size_t length) {
+    Tail tail = {0, 0};
+    if (length == SHEET + 2 * TAIL_RECORD)
+        tail = (Tail){SHEET, SHEET + TAIL_RECORD};
+    else if (length == SHEET + TAIL_RECORD)
+        *(bytes[SHEET] == 7 ? &tail.adjustment : &tail.x) = SHEET;
+    return tail;
+}
+
+/* The place of the tail's record that starts there. */
+static int tail_place(int start) { return 26 + (start - SHEET) / TAIL_RECORD; }
 
 static bool starts(const uint8_t *record, int kind, int maturity) { return record[0] == kind && record[1] == maturity; }
 
-static Ground check_kinds(const uint8_t *bytes, size_t length) {
+static Ground check_kinds(const uint8_t *bytes, Tail tail) {
     if (bytes[0] != 1) return ground(2, 1);
     for (int j = 0; j < QUOTES; j++)
         if (!starts(bytes + rate_start(j), 2, maturities[j])) return ground(2, 2 + j);
@@ -101,22 +127,25 @@ static Ground check_kinds(const uint8_t *bytes, size_t length) {
         if (!starts(bytes + volume_start(j), 3, volume_maturities[j])) return ground(2, 19 + j);
     if (bytes[UFR_START] != 4) return ground(2, 24);
     if (bytes[LIMIT_START] != 5) return ground(2, 25);
-    if (length == SHEET_WITH_X && bytes[X_START] != 6) return ground(2, 26);
+    if (tail.x && bytes[tail.x] != 6) return ground(2, tail_place(tail.x));
+    if (tail.adjustment && bytes[tail.adjustment] != 7) return ground(2, tail_place(tail.adjustment));
     return none;
 }
 
-static Sheet numbers(const uint8_t *bytes, size_t length) {
+static Sheet numbers(const uint8_t *bytes, Tail tail) {
     Sheet sheet;
     sheet.month = two_bytes(bytes + 1);
     for (int j = 0; j < QUOTES; j++) sheet.rates[j] = (int16_t)two_bytes(bytes + rate_start(j) + 2);
     for (int j = 0; j < VOLUMES; j++) sheet.volumes[j] = four_bytes(bytes + volume_start(j) + 2);
     sheet.ufr = two_bytes(bytes + UFR_START + 1);
     sheet.limit = four_bytes(bytes + LIMIT_START + 1);
-    sheet.x = length == SHEET_WITH_X ? two_bytes(bytes + X_START + 1) : DEFAULT_X;
+    sheet.x = tail.x ? two_bytes(bytes + tail.x + 1) : DEFAULT_X;
+    sheet.is_adjusted = tail.adjustment != 0;
+    sheet.adjustment = sheet.is_adjusted ? (int16_t)two_bytes(bytes + tail.adjustment + 1) : 0;
     return sheet;
 }
 
-static Ground check_ranges(const Sheet *sheet) {
+static Ground check_ranges(const Sheet *sheet, Tail tail) {
     if (sheet->month > LAST_MONTH) return ground(3, 1);
     for (int j = 0; j < QUOTES; j++)
         if (sheet->rates[j] < -2000 || sheet->rates[j] > 12000) return ground(3, 2 + j);
@@ -124,16 +153,18 @@ static Ground check_ranges(const Sheet *sheet) {
         if (sheet->volumes[j] > 1000000) return ground(3, 19 + j);
     if (sheet->ufr > 10000) return ground(3, 24);
     if (sheet->limit < 1 || sheet->limit > 100000) return ground(3, 25);
-    if (sheet->x < 10000 || sheet->x > 20000) return ground(3, 26);
+    if (sheet->x < 10000 || sheet->x > 20000) return ground(3, tail_place(tail.x));
+    if (sheet->adjustment < -500 || sheet->adjustment > 500) return ground(3, tail_place(tail.adjustment));
     return none;
 }
 
 static Ground read_sheet(const uint8_t *bytes, size_t length, Sheet *sheet) {
-    if (length != SHEET && length != SHEET_WITH_X) return ground(1, 0);
-    Ground found = check_kinds(bytes, length);
+    if (length != SHEET && length != SHEET + TAIL_RECORD && length != SHEET + 2 * TAIL_RECORD) return ground(1, 0);
+    Tail records = tail(bytes, length);
+    Ground found = check_kinds(bytes, records);
     if (found.number) return found;
-    *sheet = numbers(bytes, length);
-    found = check_ranges(sheet);
+    *sheet = numbers(bytes, records);
+    found = check_ranges(sheet, records);
     if (found.number) return found;
     int64_t traded = 0;
     for (int j = 0; j < VOLUMES; j++) traded += sheet->volumes[j];
@@ -412,16 +443,23 @@ static int64_t next_high(int64_t high, int64_t f) {
     return f >= 0 ? over_up(high * U, growth_low(f)) : times_up(high, growth_high(-f));
 }
 
-static Ground extrapolate(const Sheet *sheet, const Pair *forwards, Pair *factors) {
-    int64_t ultimate = U + 10000 * (int64_t)sheet->ufr;
-    Pair l = {-log_high(ultimate), -log_low(ultimate)};
-    Pair llfr = last_liquid_forward(sheet->volumes, forwards);
-    Weights worked;
-    int64_t a = convergence(sheet);
-    if (a != TEN_PERCENT) work_weights(a, &worked);
-    const Pair *weights = a == TEN_PERCENT ? table.at : worked.at;
+/* What both curves of a sheet go on with past year 20. */
+typedef struct {
+    Pair l;
+    const Pair *weights;
+    Weights worked; /* where the weights are not the table's */
+} Beyond;
+
+static void work_beyond(const Sheet *sheet, Beyond *beyond) {
+    int64_t ultimate = U + 10000 * (int64_t)sheet->ufr, a = convergence(sheet);
+    beyond->l = (Pair){-log_high(ultimate), -log_low(ultimate)};
+    if (a != TEN_PERCENT) work_weights(a, &beyond->worked);
+    beyond->weights = a == TEN_PERCENT ? table.at : beyond->worked.at;
+}
+
+static Ground extrapolate(const Beyond *beyond, Pair llfr, Pair *factors) {
     for (int h = 1; h <= EXTRAPOLATED; h++) {
-        Pair before = factors[SMOOTHING + h - 1], forward = year_forward(l, llfr, weights[h]);
+        Pair before = factors[SMOOTHING + h - 1], forward = year_forward(beyond->l, llfr, beyond->weights[h]);
         Pair factor = {next_low(before.low, forward.high), next_high(before.high, forward.low)};
         if (factor.high > 2 * U) return ground(8, SMOOTHING + h);
         factors[SMOOTHING + h] = factor;
@@ -429,32 +467,74 @@ static Ground extrapolate(const Sheet *sheet, const Pair *forwards, Pair *factor
     return none;
 }
 
-static Ground work_curve(const Sheet *sheet, Pair *factors) {
-    Quoted quoted;
-    Ground found = work_quotes(sheet, &quoted);
-    if (found.number) return found;
-    for (int year = 1; year <= SMOOTHING; year++) factors[year] = quoted.factors[year];
-    found = extrapolate(sheet, quoted.forwards, factors);
+/* From the curve's years to 20 on. */
+static Ground go_on(const Sheet *sheet, const Beyond *beyond, const Pair *forwards, Curve *curve) {
+    Ground found = extrapolate(beyond, last_liquid_forward(sheet->volumes, forwards), curve->factors);
     if (found.number) return found;
     for (int year = 1; year <= YEARS; year++)
-        if (factors[year].high - factors[year].low > sheet->limit) return ground(10, year);
+        if (curve->factors[year].high - curve->factors[year].low > sheet->limit) return ground(10, year);
     return none;
+}
+
+/* The adjusted curve. Each of its steps to 20 has the same growth, which is worked once. */
+
+static int64_t low_after(int64_t low, int64_t f, int64_t growth, int years) {
+    for (int year = 0; year < years; year++) low = f >= 0 ? over_down(low * U, growth) : times_down(low, growth);
+    return low;
+}
+
+static int64_t high_after(int64_t high, int64_t f, int64_t growth, int years) {
+    for (int year = 0; year < years; year++) high = f >= 0 ? over_up(high * U, growth) : times_up(high, growth);
+    return high;
+}
+
+static Ground adjust_years(int64_t f, const Pair *plain, Pair *adjusted) {
+    int64_t for_low = f >= 0 ? growth_high(f) : growth_low(-f), for_high = f >= 0 ? growth_low(f) : growth_high(-f);
+    for (int year = 1; year <= SMOOTHING; year++) {
+        adjusted[year].low = low_after(plain[year].low, f, for_low, year);
+        adjusted[year].high = high_after(plain[year].high, f, for_high, year);
+        if (adjusted[year].high > 2 * U) return ground(8, year);
+    }
+    return none;
+}
+
+static Ground work_adjusted(const Sheet *sheet, const Beyond *beyond, Quoted *quoted, Curve *adjusted) {
+    int64_t f = 10000 * (int64_t)sheet->adjustment;
+    Ground found = adjust_years(f, quoted->factors, adjusted->factors);
+    if (found.number) return found;
+    quoted->forwards[0].low += f;
+    quoted->forwards[0].high += f;
+    return go_on(sheet, beyond, quoted->forwards, adjusted);
+}
+
+static Ground work_curves(const Sheet *sheet, Curve *plain, Curve *adjusted) {
+    Quoted quoted;
+    Beyond beyond;
+    Ground found = work_quotes(sheet, &quoted);
+    if (found.number) return found;
+    work_beyond(sheet, &beyond);
+    for (int year = 1; year <= SMOOTHING; year++) plain->factors[year] = quoted.factors[year];
+    found = go_on(sheet, &beyond, quoted.forwards, plain);
+    if (found.number || !sheet->is_adjusted) return found;
+    return work_adjusted(sheet, &beyond, &quoted, adjusted);
 }
 
 /* The book [7]. */
 
 static Ground post(Book *book, const uint8_t *bytes, size_t length) {
     Sheet sheet;
-    Pair factors[YEARS + 1];
+    Curve plain, adjusted;
     Ground found = read_sheet(bytes, length, &sheet);
     if (found.number) return found;
     if (sheet.month > book->told) return ground(5, 0);
     if (book->has_curve && sheet.month < book->month) return ground(6, 0);
-    found = work_curve(&sheet, factors);
+    found = work_curves(&sheet, &plain, &adjusted);
     if (found.number) return found;
-    for (int year = 1; year <= YEARS; year++) book->factors[year] = factors[year];
+    book->plain = plain;
+    if (sheet.is_adjusted) book->adjusted = adjusted;
     book->month = sheet.month;
     book->has_curve = true;
+    book->has_adjusted = sheet.is_adjusted;
     return none;
 }
 
@@ -533,12 +613,13 @@ static Ground zero_rates(int year, Pair factor, Pair *rates) {
 /* The desk prints no rates. They are kept here, so that the compiler does not drop their work. */
 static volatile Pair rates_of_last_look_up;
 
-/* The desk's age limit is the largest, which no curve's age is above, so ground 16 has no place here. */
+/* The desk's age limit is the largest, which no curve's age is above, so ground 16 has no place here. Its look-ups are of the
+ * plain curve: the adjusted one is tried and kept, and not shown. */
 static Ground look_up(const Book *book, int year, Pair *factor) {
     Pair rates;
     if (year < 1 || year > YEARS) return ground(13, 0);
     if (!book->has_curve) return ground(14, 0);
-    *factor = book->factors[year];
+    *factor = book->plain.factors[year];
     Ground found = zero_rates(year, *factor, &rates);
     if (found.number) return found;
     rates_of_last_look_up.low = rates.low;

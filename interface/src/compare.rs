@@ -5,6 +5,7 @@ use std::collections::BTreeMap;
 use std::fmt;
 
 use reference::book::{Book, Found, PAGE_LENGTH};
+use reference::curve::Which;
 use reference::desk::LOOK_UP;
 use reference::journal::{answer_on, book_after};
 use reference::questions::curve_age;
@@ -15,6 +16,12 @@ use crate::{answer_after, look_after, page_after};
 
 /// Bytes in the reply to a look-up.
 pub const LOOK_UP_LENGTH: usize = 28;
+
+/// The ground of a curve that is missing.
+const NO_CURVE: u64 = 14;
+
+/// The ground of a buffer that is too short for the reply.
+const SHORT_BUFFER: u64 = 15;
 
 /// The ground of a curve whose age is above the limit.
 const TOO_OLD: u64 = 16;
@@ -29,29 +36,50 @@ pub fn lent(length: usize) -> Vec<u8> {
     (0..length).map(|_| random.below(256) as u8).collect()
 }
 
-/// A question asked after a journal; lengths are those of the lent buffer.
+/// A question asked after a journal; `named` is the number that names the curve, and lengths are
+/// those of the lent buffer.
 pub enum Question {
-    LookUp { year: u64, length: usize },
-    Page { length: usize },
-    Answer { call: Vec<u8> },
+    LookUp {
+        named: u64,
+        year: u64,
+        length: usize,
+    },
+    Page {
+        named: u64,
+        length: usize,
+    },
+    Answer {
+        call: Vec<u8>,
+    },
 }
 
 impl Question {
     fn length(&self) -> usize {
         match self {
-            Question::LookUp { length, .. } | Question::Page { length } => *length,
+            Question::LookUp { length, .. } | Question::Page { length, .. } => *length,
             Question::Answer { .. } => 0,
         }
     }
 
     /// Its kind, by which it is counted.
     pub fn kind(&self) -> Kind {
+        let which = self.which();
         match self {
-            Question::LookUp { length, .. } if *length < LOOK_UP_LENGTH => Kind::ShortLookUp,
-            Question::LookUp { .. } => Kind::LookUp,
-            Question::Page { length } if *length < PAGE_LENGTH => Kind::ShortPage,
-            Question::Page { .. } => Kind::Page,
+            Question::LookUp { length, .. } if *length < LOOK_UP_LENGTH => Kind::ShortLookUp(which),
+            Question::LookUp { .. } => Kind::LookUp(which),
+            Question::Page { length, .. } if *length < PAGE_LENGTH => Kind::ShortPage(which),
+            Question::Page { .. } => Kind::Page(which),
             Question::Answer { .. } => Kind::Answer,
+        }
+    }
+
+    /// The curve that it names; a record's look-up is of the plain one.
+    fn which(&self) -> Which {
+        match self {
+            Question::LookUp { named, .. } | Question::Page { named, .. } => {
+                Which::named_by(*named)
+            }
+            Question::Answer { .. } => Which::Plain,
         }
     }
 
@@ -67,59 +95,82 @@ impl Question {
 impl fmt::Display for Question {
     fn fmt(&self, f: &mut fmt::Formatter<'_>) -> fmt::Result {
         match self {
-            Question::LookUp { year, length } => {
-                write!(f, "look-up of year {year} into {length} bytes")
-            }
-            Question::Page { length } => write!(f, "page into {length} bytes"),
+            Question::LookUp {
+                named,
+                year,
+                length,
+            } => write!(
+                f,
+                "look-up of year {year} on {named:#x} into {length} bytes"
+            ),
+            Question::Page { named, length } => write!(f, "page of {named:#x} into {length} bytes"),
             Question::Answer { call } => write!(f, "answer to {}", hex(call)),
         }
     }
 }
 
-/// The kinds of questions, those into a buffer too short for the reply apart.
+/// The kinds of questions, those about each curve and those into a buffer too short for the reply
+/// apart.
 #[derive(Clone, Copy, Debug, PartialEq, Eq, PartialOrd, Ord)]
 pub enum Kind {
-    LookUp,
-    ShortLookUp,
-    Page,
-    ShortPage,
+    LookUp(Which),
+    ShortLookUp(Which),
+    Page(Which),
+    ShortPage(Which),
     Answer,
 }
 
 impl Kind {
     /// All kinds, in the order in which they are told.
-    pub const ALL: [Kind; 5] = [
-        Kind::LookUp,
-        Kind::ShortLookUp,
-        Kind::Page,
-        Kind::ShortPage,
+    pub const ALL: [Kind; 9] = [
+        Kind::LookUp(Which::Plain),
+        Kind::LookUp(Which::Adjusted),
+        Kind::ShortLookUp(Which::Plain),
+        Kind::ShortLookUp(Which::Adjusted),
+        Kind::Page(Which::Plain),
+        Kind::Page(Which::Adjusted),
+        Kind::ShortPage(Which::Plain),
+        Kind::ShortPage(Which::Adjusted),
         Kind::Answer,
     ];
 
-    /// Whether questions of this kind can ask for rates: a page has none.
-    fn asks_for_rates(self) -> bool {
-        !matches!(self, Kind::Page | Kind::ShortPage)
+    /// The answers that questions of this kind must meet for them to mean something. A page has
+    /// no rates. An adjusted curve, which often is missing, must be there for some: they are
+    /// accepted, or the buffer is too short for them.
+    fn due(self) -> &'static [u64] {
+        match self {
+            Kind::LookUp(Which::Adjusted) => &[0, TOO_OLD, NO_HIGH_RATE],
+            Kind::ShortLookUp(Which::Adjusted) => &[SHORT_BUFFER, TOO_OLD, NO_HIGH_RATE],
+            Kind::Page(Which::Adjusted) => &[0, TOO_OLD],
+            Kind::ShortPage(Which::Adjusted) => &[SHORT_BUFFER, TOO_OLD],
+            Kind::Page(_) | Kind::ShortPage(_) => &[TOO_OLD],
+            Kind::LookUp(_) | Kind::ShortLookUp(_) | Kind::Answer => &[TOO_OLD, NO_HIGH_RATE],
+        }
     }
 
-    /// The grounds that questions of this kind must meet for them to mean something.
-    fn due(self) -> &'static [u64] {
-        if self.asks_for_rates() {
-            &[TOO_OLD, NO_HIGH_RATE]
-        } else {
-            &[TOO_OLD]
+    /// The curve that questions of this kind name.
+    fn which(self) -> Which {
+        match self {
+            Kind::LookUp(which) | Kind::ShortLookUp(which) => which,
+            Kind::Page(which) | Kind::ShortPage(which) => which,
+            Kind::Answer => Which::Plain,
         }
     }
 }
 
 impl fmt::Display for Kind {
     fn fmt(&self, f: &mut fmt::Formatter<'_>) -> fmt::Result {
-        f.write_str(match self {
-            Kind::LookUp => "look-ups",
-            Kind::ShortLookUp => "look-ups into short buffers",
-            Kind::Page => "pages",
-            Kind::ShortPage => "pages into short buffers",
-            Kind::Answer => "answers to records",
-        })
+        let asked = match self {
+            Kind::LookUp(_) => "look-ups",
+            Kind::ShortLookUp(_) => "look-ups into short buffers",
+            Kind::Page(_) => "pages",
+            Kind::ShortPage(_) => "pages into short buffers",
+            Kind::Answer => return f.write_str("answers to records"),
+        };
+        match self.which() {
+            Which::Plain => f.write_str(asked),
+            Which::Adjusted => write!(f, "{asked}, adjusted"),
+        }
     }
 }
 
@@ -179,8 +230,8 @@ impl<'a> Case<'a> {
     fn library(&self, question: &Question, out: &mut [u8]) -> u64 {
         let (limit, journal) = (self.age_limit, self.journal);
         match question {
-            Question::LookUp { year, .. } => look_after(limit, journal, *year, out),
-            Question::Page { .. } => page_after(limit, journal, out),
+            Question::LookUp { named, year, .. } => look_after(limit, journal, *named, *year, out),
+            Question::Page { named, .. } => page_after(limit, journal, *named, out),
             Question::Answer { call } => answer_after(limit, journal, call),
         }
     }
@@ -188,10 +239,11 @@ impl<'a> Case<'a> {
     fn second(&self, question: &Question, out: &mut [u8]) -> u64 {
         match question {
             Question::LookUp { year, .. } => {
-                let found = self.book.look_up(u32::try_from(*year).unwrap_or(u32::MAX));
+                let year = u32::try_from(*year).unwrap_or(u32::MAX);
+                let found = self.book.look_up(question.which(), year);
                 code(found.and_then(|found| write_look_up(&found, out)))
             }
-            Question::Page { .. } => code(self.book.page(out)),
+            Question::Page { .. } => code(self.book.page(question.which(), out)),
             Question::Answer { call } => answer_on(&self.book, call),
         }
     }
@@ -231,10 +283,12 @@ fn eight_bytes(value: i128) -> [u8; 8] {
         .to_be_bytes()
 }
 
-/// How often each kind of question met each number, and curves at the limit and just past it.
+/// How often each kind of question met each number, adjusted curves that were missing beside a
+/// plain one, and curves at the limit and just past it.
 #[derive(Default)]
 pub struct Met {
     numbers: BTreeMap<(Kind, u64), u64>,
+    missing_beside_plain: u64,
     shown_at_the_limit: u64,
     a_month_past_it: u64,
 }
@@ -245,6 +299,9 @@ impl Met {
         let answer = case.ask(question)?;
         let number = answer % 256;
         *self.numbers.entry((question.kind(), number)).or_default() += 1;
+        if number == NO_CURVE && case.age.is_some() {
+            self.missing_beside_plain += 1;
+        }
         if number == 0 && question.shows_the_curve() && case.age == Some(case.age_limit) {
             self.shown_at_the_limit += 1;
         }
@@ -255,9 +312,14 @@ impl Met {
     }
 
     /// Says what was not met and must be for the questions to mean something: by each of these
-    /// kinds ground 16 and, unless it is of pages, 17; and curves at the limit and a month past
-    /// it.
+    /// kinds ground 16 and, unless it is of pages, 17; of those about adjusted curves also one that
+    /// is there and one that is missing beside a plain one; and curves at the limit and a month
+    /// past it.
     pub fn check(&self, kinds: &[Kind]) -> Result<(), String> {
+        let adjusted = kinds.iter().any(|kind| kind.which() == Which::Adjusted);
+        if adjusted && self.missing_beside_plain == 0 {
+            return Err("no adjusted curve was missing beside a plain one".to_string());
+        }
         for &kind in kinds {
             let met = |number: &u64| self.numbers.contains_key(&(kind, *number));
             if let Some(number) = kind.due().iter().find(|number| !met(number)) {
@@ -285,8 +347,9 @@ impl fmt::Display for Met {
         }
         write!(
             f,
-            "curves shown exactly at the limit: {}; turned away a month past it: {}",
-            self.shown_at_the_limit, self.a_month_past_it
+            "adjusted curves missing beside a plain one: {}; curves shown exactly at the limit: {}; \
+             turned away a month past it: {}",
+            self.missing_beside_plain, self.shown_at_the_limit, self.a_month_past_it
         )
     }
 }

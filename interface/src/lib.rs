@@ -9,6 +9,7 @@ extern "C" {
         age_limit: u64,
         calls: *const c_uchar,
         calls_len: usize,
+        kind: u64,
         year: u64,
         out: *mut c_uchar,
         out_len: usize,
@@ -17,6 +18,7 @@ extern "C" {
         age_limit: u64,
         calls: *const c_uchar,
         calls_len: usize,
+        kind: u64,
         out: *mut c_uchar,
         out_len: usize,
     ) -> u64;
@@ -29,14 +31,21 @@ extern "C" {
     ) -> u64;
 }
 
+/// Names the plain curve.
+pub const PLAIN: u64 = 0;
+
+/// Names the adjusted curve.
+pub const ADJUSTED: u64 = 1;
+
 /// The number of the ground, or 0.
-pub fn look_after(age_limit: u64, calls: &[u8], year: u64, out: &mut [u8]) -> u64 {
+pub fn look_after(age_limit: u64, calls: &[u8], kind: u64, year: u64, out: &mut [u8]) -> u64 {
     // SAFETY: both slices are valid for their lengths, and a `&mut` overlaps nothing.
     unsafe {
         tuyqorem_look_after(
             age_limit,
             calls.as_ptr(),
             calls.len(),
+            kind,
             year,
             out.as_mut_ptr(),
             out.len(),
@@ -45,13 +54,14 @@ pub fn look_after(age_limit: u64, calls: &[u8], year: u64, out: &mut [u8]) -> u6
 }
 
 /// The number of the ground, or 0.
-pub fn page_after(age_limit: u64, calls: &[u8], out: &mut [u8]) -> u64 {
+pub fn page_after(age_limit: u64, calls: &[u8], kind: u64, out: &mut [u8]) -> u64 {
     // SAFETY: both slices are valid for their lengths, and a `&mut` overlaps nothing.
     unsafe {
         tuyqorem_page_after(
             age_limit,
             calls.as_ptr(),
             calls.len(),
+            kind,
             out.as_mut_ptr(),
             out.len(),
         )

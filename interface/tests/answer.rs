@@ -12,6 +12,7 @@ use interface::compare::{Kind, Met, Question};
 use reference::every_ground::AGE_LIMIT;
 use reference::journal::{post, NO_RECORD};
 use reference::questions::{age_limits, call, journal};
+use reference::sheet::Sheet;
 use reference::streams::{low_rates, sheet_bytes, Random};
 
 /// Records that are asked about after each journal, under each limit.
@@ -105,11 +106,18 @@ fn every_ground_agrees_under_every_limit() {
 #[test]
 fn sheets_of_every_length_are_answered() {
     let mut random = Random::new(39);
-    let sheet = sheet_bytes(&low_rates(0, Some(20_000)));
+    let sheet = sheet_bytes(&Sheet {
+        adjustment: Some(-500),
+        ..low_rates(0, Some(20_000))
+    });
     for length in (0..=400).chain([512, 4_096, 65_535]) {
         let mut bytes = sheet.clone();
         bytes.resize(length, 0);
-        let expected = if [109, 112].contains(&length) { 0 } else { 1 };
+        let expected = if [109, 112, 115].contains(&length) {
+            0
+        } else {
+            1
+        };
         for age_limit in age_limits(&mut random) {
             let answer = answer_after(age_limit, &[], &post(&bytes));
             assert_eq!(answer, expected, "{length} bytes, age limit {age_limit}");
@@ -128,15 +136,18 @@ fn every_26th_record_is_answered() {
             assert_eq!(answer, expected, "{last:?}, age limit {age_limit}");
         }
     };
-    for kind in (0..=255).filter(|&kind| kind != 0x06) {
+    for kind in (0..=255).filter(|kind| ![0x06, 0x07].contains(kind)) {
         assert_answer([kind, 0x4E, 0x20], 2 + 256 * 26);
     }
     for x in (0..=u16::MAX)
         .step_by(97)
         .chain([9_999, 10_000, 20_000, 20_001])
+        .chain([0, 1, 499, 500, 501, 65_034, 65_035, 65_036, 65_535])
     {
         let [high, low] = x.to_be_bytes();
         let outside = !(10_000..=20_000).contains(&x);
         assert_answer([0x06, high, low], if outside { 3 + 256 * 26 } else { 0 });
+        let outside = !(-500..=500).contains(&(x as i16));
+        assert_answer([0x07, high, low], if outside { 3 + 256 * 26 } else { 0 });
     }
 }

@@ -3,8 +3,9 @@
 //! look-ups, pages and answers in every pattern of volumes.
 
 use interface::compare::{Case, Question};
-use interface::{answer_after, look_after, page_after};
+use interface::{answer_after, look_after, page_after, PLAIN};
 use reference::book::LARGEST_AGE_LIMIT;
+use reference::counts::answered_posts;
 use reference::dropped::{dropped_sheet, typed_dropped_sheet, DroppedPosts};
 use reference::journal::{look_up, post, turn};
 use reference::sheet::Sheet;
@@ -33,6 +34,7 @@ fn sheet(rates: [i16; 17], volumes: [u32; 5]) -> Sheet {
         ufr: 345,
         limit: 100_000,
         phase_in: None,
+        adjustment: None,
     }
 }
 
@@ -63,7 +65,7 @@ fn answered(sheet: &Sheet) -> (u64, u64) {
 /// Low and high of a year of an accepted sheet.
 fn band(sheet: &Sheet, year: u64) -> (u64, u64) {
     let mut out = [9; REPLY];
-    let answer = look_after(LARGEST_AGE_LIMIT, &posted(sheet), year, &mut out);
+    let answer = look_after(LARGEST_AGE_LIMIT, &posted(sheet), PLAIN, year, &mut out);
     assert_eq!(answer, 0, "year {year} of {sheet:?}");
     let number = |at: usize| u64::from_be_bytes(out[at..at + 8].try_into().unwrap());
     (number(0), number(8))
@@ -71,7 +73,11 @@ fn band(sheet: &Sheet, year: u64) -> (u64, u64) {
 
 fn page(sheet: &Sheet) -> [u8; PAGE] {
     let mut out = [9; PAGE];
-    assert_eq!(page_after(0, &posted(sheet), &mut out), 0, "{sheet:?}");
+    assert_eq!(
+        page_after(0, &posted(sheet), PLAIN, &mut out),
+        0,
+        "{sheet:?}"
+    );
     out
 }
 
@@ -167,9 +173,16 @@ fn agree(case: &Case, question: Question) -> u64 {
 
 /// Look-ups of the years, with factors and rates, a page, and the answers to look-ups.
 fn ask_curve(case: &Case, years: impl Iterator<Item = u8>) {
-    agree(case, Question::Page { length: PAGE });
+    agree(
+        case,
+        Question::Page {
+            named: PLAIN,
+            length: PAGE,
+        },
+    );
     for year in years {
         let asked = Question::LookUp {
+            named: PLAIN,
             year: u64::from(year),
             length: REPLY,
         };
@@ -226,7 +239,11 @@ fn trials_beyond_64_bits_agree() {
     let mut tried = 0;
     for rate in (-1_370..=-280).step_by(15) {
         let sheet = flat(rate, [1, 0, 0, 0, 1]);
-        let start = worked(&sheet).expect("an accepted sheet").factor(20).high;
+        let start = worked(&sheet)
+            .expect("an accepted sheet")
+            .plain
+            .factor(20)
+            .high;
         let grown = (0..29).fold(start, |high, _| high * 1_100_000_000 / 1_000_000_000);
         assert!(grown * 1_100_000_000 > 1 << 64, "rate {rate}");
         let journal = posted(&sheet);
@@ -243,7 +260,9 @@ fn seeded_sheets_agree() {
     let mut dropped = DroppedPosts::default();
     for _ in 0..400 {
         let journal = [posted(&dropped_sheet(&mut random, 0)), turn(1)].concat();
-        dropped.count_journal(&journal);
+        for (sheet, number) in answered_posts(&journal) {
+            dropped.count(&sheet, number == 0);
+        }
         let case = Case::replayed(1, &journal);
         let years = [random.between(18, 52), random.between(1, 150)];
         ask_curve(&case, years.into_iter().map(|year| year as u8));
@@ -273,7 +292,7 @@ fn a_curve_follows_the_last_accepted_sheet() {
     ] {
         let journal: Vec<u8> = sheets.into_iter().flat_map(posted).collect();
         let mut found = [9; PAGE];
-        assert_eq!(page_after(0, &journal, &mut found), 0);
+        assert_eq!(page_after(0, &journal, PLAIN, &mut found), 0);
         assert_eq!(found, page(shown));
     }
 }

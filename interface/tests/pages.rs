@@ -3,7 +3,8 @@
 //! implementation; and the refusals, which leave all.
 
 use interface::compare::lent;
-use interface::page_after;
+use interface::{page_after, PLAIN};
+use reference::curve::Which;
 use reference::journal::{book_after, post, turn};
 use reference::sheet::Sheet;
 use reference::streams::{low_rates, sheet, sheet_bytes, steep_sheet, worked, Random};
@@ -73,7 +74,7 @@ fn journals() -> Vec<Vec<u8>> {
 /// The second implementation's page after the journal, written over zeros.
 fn expected_page(journal: &[u8]) -> [u8; PAGE] {
     let mut page = [0; PAGE];
-    let paged = book_after(AGE_LIMIT, journal).page(&mut page);
+    let paged = book_after(AGE_LIMIT, journal).page(Which::Plain, &mut page);
     assert_eq!(paged, Ok(()));
     page
 }
@@ -82,7 +83,12 @@ fn expected_page(journal: &[u8]) -> [u8; PAGE] {
 /// all other bytes of the memory are kept.
 fn assert_page(journal: &[u8], page: &[u8], memory: &[u8], offset: usize, length: usize) {
     let mut found = memory.to_vec();
-    let ground = page_after(AGE_LIMIT, journal, &mut found[offset..offset + length]);
+    let ground = page_after(
+        AGE_LIMIT,
+        journal,
+        PLAIN,
+        &mut found[offset..offset + length],
+    );
     assert_eq!(ground, 0, "{length} bytes from {offset} on");
     let expected = [&memory[..offset], page, &memory[offset + PAGE..]].concat();
     let other = (0..memory.len()).find(|&at| found[at] != expected[at]);
@@ -94,7 +100,12 @@ fn assert_page(journal: &[u8], page: &[u8], memory: &[u8], offset: usize, length
 fn assert_refused(journal: &[u8], offset: usize, length: usize, ground: u64) {
     let memory = lent(offset + length + BEHIND);
     let mut found = memory.clone();
-    let answer = page_after(AGE_LIMIT, journal, &mut found[offset..offset + length]);
+    let answer = page_after(
+        AGE_LIMIT,
+        journal,
+        PLAIN,
+        &mut found[offset..offset + length],
+    );
     assert_eq!(answer, ground, "{length} bytes from {offset} on");
     assert!(found == memory, "{length} bytes from {offset} on");
 }
@@ -154,12 +165,12 @@ fn the_page_is_the_same_over_any_contents() {
 fn the_byte_behind_the_page_stays_7() {
     for journal in journals() {
         let mut buffer = [7; 1_506];
-        assert_eq!(page_after(AGE_LIMIT, &journal, &mut buffer), 0);
+        assert_eq!(page_after(AGE_LIMIT, &journal, PLAIN, &mut buffer), 0);
         assert_eq!(buffer[1_505], 7);
         assert_eq!(buffer[..1_505], expected_page(&journal));
         // A byte that is the same however it was lent was written.
         let mut other = [8; 1_506];
-        assert_eq!(page_after(AGE_LIMIT, &journal, &mut other), 0);
+        assert_eq!(page_after(AGE_LIMIT, &journal, PLAIN, &mut other), 0);
         let same = (0..1_506).filter(|&at| buffer[at] == other[at]);
         assert_eq!(same.count(), 1_505);
     }
@@ -168,9 +179,12 @@ fn the_byte_behind_the_page_stays_7() {
 #[test]
 fn records_stand_at_their_own_bytes() {
     for sheet in sheets() {
-        let curve = worked(&sheet).expect("an accepted sheet");
+        let curve = worked(&sheet).expect("an accepted sheet").plain;
         let mut buffer = lent(1_600);
-        assert_eq!(page_after(AGE_LIMIT, &aged(&sheet, AGE), &mut buffer), 0);
+        assert_eq!(
+            page_after(AGE_LIMIT, &aged(&sheet, AGE), PLAIN, &mut buffer),
+            0
+        );
         let number = |at: usize, length: usize| {
             let bytes = buffer[at..at + length].iter();
             bytes.fold(0, |number, &byte| 256 * number + i128::from(byte))
@@ -193,15 +207,18 @@ fn an_older_page_gives_way() {
     for (older, journal) in journals.iter().zip(journals.iter().cycle().skip(1)) {
         let mut buffer = lent(3_020);
         let past = buffer[PAGE + 7..].to_vec();
-        assert_eq!(page_after(AGE_LIMIT, older, &mut buffer[7..]), 0);
-        assert_eq!(page_after(AGE_LIMIT, journal, &mut buffer[7..]), 0);
+        assert_eq!(page_after(AGE_LIMIT, older, PLAIN, &mut buffer[7..]), 0);
+        assert_eq!(page_after(AGE_LIMIT, journal, PLAIN, &mut buffer[7..]), 0);
         assert!(buffer[..7] == lent(3_020)[..7]);
         assert!(buffer[7..PAGE + 7] == expected_page(journal));
         assert!(buffer[PAGE + 7..] == past);
         // One that is refused leaves the page that is there.
         let before = buffer.clone();
-        assert_eq!(page_after(AGE_LIMIT, &[], &mut buffer[7..]), 14);
-        assert_eq!(page_after(AGE_LIMIT, older, &mut buffer[7..1_511]), 15);
+        assert_eq!(page_after(AGE_LIMIT, &[], PLAIN, &mut buffer[7..]), 14);
+        assert_eq!(
+            page_after(AGE_LIMIT, older, PLAIN, &mut buffer[7..1_511]),
+            15
+        );
         assert!(buffer == before);
     }
 }
@@ -214,7 +231,10 @@ fn a_page_between_two_others_in_one_memory() {
     // The last page comes before the first, and the one between them last.
     for (place, journal) in [2, 0, 1].into_iter().zip(&journals) {
         let own = place * PAGE..(place + 1) * PAGE;
-        assert_eq!(page_after(AGE_LIMIT, journal, &mut memory[own.clone()]), 0);
+        assert_eq!(
+            page_after(AGE_LIMIT, journal, PLAIN, &mut memory[own.clone()]),
+            0
+        );
         expected[own].copy_from_slice(&expected_page(journal));
         assert!(memory == expected, "place {place}");
     }

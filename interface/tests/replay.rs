@@ -5,11 +5,12 @@ mod common;
 
 use common::{cases, journals};
 use interface::compare::{Case, Kind, Met, Question};
-use interface::{look_after, page_after};
+use interface::{look_after, page_after, PLAIN};
 use reference::book::LARGEST_AGE_LIMIT;
 use reference::convergence::TEN_PERCENT;
+use reference::curve::Which;
 use reference::journal::{post, turn};
-use reference::questions::{age_limits, journal};
+use reference::questions::{age_limits, journal, kind};
 use reference::sheet::Sheet;
 use reference::streams::{low_rates, sheet, sheet_bytes, worked, Random};
 
@@ -21,7 +22,7 @@ fn page_of(sheet: &Sheet) -> Vec<u8> {
     let journal = post(&sheet_bytes(sheet));
     let page = |age_limit| {
         let mut page = vec![0; 1_505];
-        assert_eq!(page_after(age_limit, &journal, &mut page), 0);
+        assert_eq!(page_after(age_limit, &journal, PLAIN, &mut page), 0);
         page
     };
     let shown = page(0);
@@ -37,7 +38,7 @@ fn reply_of(sheet: &Sheet, year: u64) -> [u8; 28] {
     let journal = post(&sheet_bytes(sheet));
     let reply = |age_limit| {
         let mut out = [0; 28];
-        assert_eq!(look_after(age_limit, &journal, year, &mut out), 0);
+        assert_eq!(look_after(age_limit, &journal, PLAIN, year, &mut out), 0);
         out
     };
     let shown = reply(0);
@@ -61,6 +62,12 @@ fn rates_of(sheet: &Sheet, year: u64) -> (i32, i32) {
     (number(20), number(24))
 }
 
+/// Both curves with each of these.
+fn of_each_curve<T: Copy>(each: &[T]) -> Vec<(Which, T)> {
+    let pairs = |which| each.iter().map(move |&one| (which, one));
+    Which::ALL.into_iter().flat_map(pairs).collect()
+}
+
 #[test]
 fn pages_agree() {
     let mut random = Random::new(31);
@@ -68,14 +75,16 @@ fn pages_agree() {
     for number in 0..journals() {
         let journal = journal(&mut random);
         for case in cases(&mut random, &journal) {
-            for length in BUFFERS {
-                let answer = met.ask(&case, &Question::Page { length });
+            for (which, length) in of_each_curve(&BUFFERS) {
+                let named = kind(&mut random, which);
+                let answer = met.ask(&case, &Question::Page { named, length });
                 assert!(answer.is_ok(), "journal {number}: {answer:?}");
             }
         }
     }
     println!("{met}");
-    assert_eq!(met.check(&[Kind::Page, Kind::ShortPage]), Ok(()));
+    assert_eq!(met.check(&Which::ALL.map(Kind::Page)), Ok(()));
+    assert_eq!(met.check(&Which::ALL.map(Kind::ShortPage)), Ok(()));
 }
 
 #[test]
@@ -86,15 +95,21 @@ fn look_ups_agree() {
         let journal = journal(&mut random);
         for case in cases(&mut random, &journal) {
             let early = random.between(9, 20) as u64;
-            for year in [0, 1, early, 20, 21, 150, 151, random.number()] {
-                let length = LOOK_UP_BUFFERS[random.below(9) as usize];
-                let answer = met.ask(&case, &Question::LookUp { year, length });
+            let years = [0, 1, early, 20, 21, 150, 151, random.number()];
+            for (which, year) in of_each_curve(&years) {
+                let question = Question::LookUp {
+                    named: kind(&mut random, which),
+                    year,
+                    length: random.one_of(&LOOK_UP_BUFFERS),
+                };
+                let answer = met.ask(&case, &question);
                 assert!(answer.is_ok(), "journal {number}: {answer:?}");
             }
         }
     }
     println!("{met}");
-    assert_eq!(met.check(&[Kind::LookUp, Kind::ShortLookUp]), Ok(()));
+    assert_eq!(met.check(&Which::ALL.map(Kind::LookUp)), Ok(()));
+    assert_eq!(met.check(&Which::ALL.map(Kind::ShortLookUp)), Ok(()));
 }
 
 /// A curve of month 0, accepted, that is `age` months old.
@@ -105,7 +120,7 @@ fn aged(age: u16) -> Vec<u8> {
 /// The ground of a look-up into `length` bytes, all of which a refusal leaves.
 fn looked(age_limit: u64, journal: &[u8], year: u64, length: usize) -> u64 {
     let mut out = vec![9; length];
-    let ground = look_after(age_limit, journal, year, &mut out);
+    let ground = look_after(age_limit, journal, PLAIN, year, &mut out);
     assert!(ground == 0 || out == vec![9; length]);
     ground
 }
@@ -113,7 +128,7 @@ fn looked(age_limit: u64, journal: &[u8], year: u64, length: usize) -> u64 {
 /// The ground of a page into `length` bytes, all of which a refusal leaves.
 fn paged(age_limit: u64, journal: &[u8], length: usize) -> u64 {
     let mut out = vec![9; length];
-    let ground = page_after(age_limit, journal, &mut out);
+    let ground = page_after(age_limit, journal, PLAIN, &mut out);
     assert!(ground == 0 || out == vec![9; length]);
     ground
 }
@@ -190,9 +205,10 @@ fn pages_with_x_agree() {
         let journal = post(&sheet_bytes(&sheet));
         let replayed = Case::replayed(LARGEST_AGE_LIMIT, &journal);
         for age_limit in age_limits(&mut random) {
-            let answer = replayed
-                .under(age_limit)
-                .ask(&Question::Page { length: 1_505 });
+            let answer = replayed.under(age_limit).ask(&Question::Page {
+                named: PLAIN,
+                length: 1_505,
+            });
             assert!(matches!(answer, Ok(0)), "{answer:?}");
         }
         done += 1;

@@ -2,8 +2,9 @@
 //! by hand, and against the second implementation's on every year of steep curves.
 
 use interface::compare::{Case, Kind, Met, Question};
-use interface::{answer_after, look_after, page_after};
+use interface::{answer_after, look_after, page_after, PLAIN};
 use reference::book::LARGEST_AGE_LIMIT;
+use reference::curve::Which;
 use reference::journal::{look_up, post, turn};
 use reference::questions::age_limits;
 use reference::sheet::Sheet;
@@ -24,6 +25,7 @@ fn zero(month: u16) -> Sheet {
         ufr: 0,
         limit: 100_000,
         phase_in: None,
+        adjustment: None,
     }
 }
 
@@ -51,7 +53,7 @@ fn posted(sheet: &Sheet) -> Vec<u8> {
 /// The reply to an accepted look-up.
 fn reply(journal: &[u8], year: u64) -> [u8; REPLY] {
     let mut out = [LENT; REPLY];
-    let answer = look_after(LARGEST_AGE_LIMIT, journal, year, &mut out);
+    let answer = look_after(LARGEST_AGE_LIMIT, journal, PLAIN, year, &mut out);
     assert_eq!(answer, 0, "year {year}");
     out
 }
@@ -65,7 +67,7 @@ fn rates(sheet: &Sheet, year: u64) -> (i32, i32) {
 /// The ground of a look-up into `length` bytes, all of which a refusal leaves.
 fn looked(age_limit: u64, journal: &[u8], year: u64, length: usize) -> u64 {
     let mut out = vec![LENT; length];
-    let ground = look_after(age_limit, journal, year, &mut out);
+    let ground = look_after(age_limit, journal, PLAIN, year, &mut out);
     assert!(ground == 0 || out == vec![LENT; length]);
     ground
 }
@@ -90,7 +92,7 @@ fn bytes_past_the_reply_are_kept() {
     let expected = reply(&journal, 60);
     for length in REPLY..=64 {
         let mut out = vec![LENT; length];
-        assert_eq!(look_after(0, &journal, 60, &mut out), 0);
+        assert_eq!(look_after(0, &journal, PLAIN, 60, &mut out), 0);
         assert_eq!(out[..REPLY], expected);
         assert_eq!(out[REPLY..], vec![LENT; length - REPLY]);
     }
@@ -168,8 +170,8 @@ fn a_page_still_has_the_pair() {
     for sheet in [steep(0), steep(10_000)] {
         let journal = posted(&sheet);
         let mut page = [LENT; 1_505];
-        assert_eq!(page_after(0, &journal, &mut page), 0);
-        let curve = worked(&sheet).expect("an accepted sheet");
+        assert_eq!(page_after(0, &journal, PLAIN, &mut page), 0);
+        let curve = worked(&sheet).expect("an accepted sheet").plain;
         for (year, record) in (1..).zip(page[5..].chunks_exact(10)) {
             let factor = curve.factor(year);
             let four_bytes = |value| u32::try_from(value).unwrap().to_be_bytes();
@@ -177,7 +179,7 @@ fn a_page_still_has_the_pair() {
             assert_eq!(record[2..6], four_bytes(factor.low));
             assert_eq!(record[6..], four_bytes(factor.high));
         }
-        assert_eq!(page_after(0, &journal, &mut page[..1_504]), 15);
+        assert_eq!(page_after(0, &journal, PLAIN, &mut page[..1_504]), 15);
     }
 }
 
@@ -186,6 +188,7 @@ fn ask_all_years(case: &Case, met: &mut Met) {
     for year in 0..=151 {
         let questions = [
             Question::LookUp {
+                named: PLAIN,
                 year: u64::from(year),
                 length: REPLY,
             },
@@ -211,5 +214,8 @@ fn every_year_of_steep_curves_agrees() {
         }
     }
     println!("{met}");
-    assert_eq!(met.check(&[Kind::LookUp, Kind::Answer]), Ok(()));
+    assert_eq!(
+        met.check(&[Kind::LookUp(Which::Plain), Kind::Answer]),
+        Ok(())
+    );
 }

@@ -1,6 +1,6 @@
-//! The book: its age limit, the standing curve with its month, and the told month.
+//! The book: its age limit, the standing curves with their month, and the told month.
 
-use crate::curve::{Curve, YEARS};
+use crate::curve::{Curve, Curves, Which, YEARS};
 use crate::enclosure::Enclosure;
 use crate::page::Page;
 use crate::rates::ZeroRates;
@@ -13,11 +13,18 @@ pub use crate::page::PAGE_LENGTH;
 /// last month that can be told is 2,399.
 pub const LARGEST_AGE_LIMIT: u64 = 2_399;
 
-/// A curve and the month of its sheet.
+/// The curves of a sheet and its month.
 #[derive(Clone, Debug, PartialEq, Eq)]
 struct Standing {
     month: u16,
-    curve: Curve,
+    curves: Curves,
+}
+
+/// A curve that is shown.
+struct Shown<'a> {
+    curve: &'a Curve,
+    month: u16,
+    age: u16,
 }
 
 /// The dated curve book.
@@ -62,9 +69,10 @@ impl Book {
         }
     }
 
-    /// Replaces the curve by that of the sheet in `bytes` and hands back its month,
-    /// or refuses on the first of grounds 1 to 10 and leaves the book unchanged. A curve
-    /// that is too old to be shown still stands in ground 6.
+    /// Replaces the curves by those of the sheet in `bytes` and hands back its month,
+    /// or refuses on the first of grounds 1 to 10 and leaves the book unchanged: no plain curve
+    /// is kept where the adjusted one fails, and no adjusted one where the sheet has none. A
+    /// curve that is too old to be shown still stands in ground 6.
     pub fn post(&mut self, bytes: &[u8]) -> Result<u16, Refusal> {
         let sheet = Sheet::read(bytes)?;
         if sheet.month > self.told_month {
@@ -77,10 +85,10 @@ impl Book {
         {
             return Err(Refusal::plain(6));
         }
-        let curve = Curve::of(&sheet)?;
+        let curves = Curves::of(&sheet)?;
         self.standing = Some(Standing {
             month: sheet.month,
-            curve,
+            curves,
         });
         Ok(sheet.month)
     }
@@ -98,38 +106,46 @@ impl Book {
         Ok(self.told_month)
     }
 
-    /// The factor of `year` with its rates and its dating, or the first of grounds 13, 14, 16
-    /// and 17.
-    pub fn look_up(&self, year: u32) -> Result<Found, Refusal> {
+    /// The factor of `year` on the named curve with its rates and its dating, or the first of
+    /// grounds 13, 14, 16 and 17.
+    pub fn look_up(&self, which: Which, year: u32) -> Result<Found, Refusal> {
         let year = usize::try_from(year)
             .ok()
             .filter(|year| (1..=YEARS).contains(year))
             .ok_or(Refusal::plain(13))?;
-        let (standing, age) = self.shown()?;
-        let factor = standing.curve.factor(year);
+        let shown = self.shown(which)?;
+        let factor = shown.curve.factor(year);
         Ok(Found {
             factor,
             rates: ZeroRates::of(factor, year).ok_or(Refusal::plain(17))?,
-            month: standing.month,
-            age,
+            month: shown.month,
+            age: shown.age,
         })
     }
 
-    /// Writes the page into the first 1,505 bytes of `buffer` and keeps the others,
-    /// or refuses on the first of grounds 14, 16 and 15, in this order, and leaves the
+    /// Writes the page of the named curve into the first 1,505 bytes of `buffer` and keeps the
+    /// others, or refuses on the first of grounds 14, 16 and 15, in this order, and leaves the
     /// buffer unchanged. It tells no rates, so that a year without them keeps its pair.
-    pub fn page(&self, buffer: &mut [u8]) -> Result<(), Refusal> {
-        self.shown_page()?.write(buffer, |_, _| {})
+    pub fn page(&self, which: Which, buffer: &mut [u8]) -> Result<(), Refusal> {
+        self.shown_page(which)?.write(buffer, |_, _| {})
     }
 
-    /// The page of the curve, to be written, or the first of grounds 14 and 16.
-    pub fn shown_page(&self) -> Result<Page<impl Fn(usize) -> Enclosure + '_>, Refusal> {
-        let (standing, age) = self.shown()?;
+    /// The page of the named curve, to be written, or the first of grounds 14 and 16.
+    pub fn shown_page(
+        &self,
+        which: Which,
+    ) -> Result<Page<impl Fn(usize) -> Enclosure + '_>, Refusal> {
+        let shown = self.shown(which)?;
         Ok(Page {
-            month: standing.month,
-            age,
-            factor: |year| standing.curve.factor(year),
+            month: shown.month,
+            age: shown.age,
+            factor: |year| shown.curve.factor(year),
         })
+    }
+
+    /// Whether the book holds the named curve, shown or too old.
+    pub fn holds(&self, which: Which) -> bool {
+        self.held(which).is_ok()
     }
 
     /// The age of the curve that the book holds, if it holds one, shown or too old.
@@ -137,15 +153,26 @@ impl Book {
         self.standing.as_ref().map(|standing| self.age(standing))
     }
 
-    /// The standing curve with its age, if it is young enough to be shown; else ground 14
-    /// or 16.
-    fn shown(&self) -> Result<(&Standing, u16), Refusal> {
+    /// The named curve with what it stands among, or ground 14: no post was accepted, or the
+    /// last accepted sheet had no adjustment.
+    fn held(&self, which: Which) -> Result<(&Standing, &Curve), Refusal> {
         let standing = self.standing.as_ref().ok_or(Refusal::plain(14))?;
+        let curve = standing.curves.get(which).ok_or(Refusal::plain(14))?;
+        Ok((standing, curve))
+    }
+
+    /// The named curve with its dating, if it is young enough to be shown; else ground 14 or 16.
+    fn shown(&self, which: Which) -> Result<Shown<'_>, Refusal> {
+        let (standing, curve) = self.held(which)?;
         let age = self.age(standing);
         if u64::from(age) > self.age_limit {
             return Err(Refusal::plain(16));
         }
-        Ok((standing, age))
+        Ok(Shown {
+            curve,
+            month: standing.month,
+            age,
+        })
     }
 
     /// Never below 0: ground 5 bounds the sheet's month, ground 12 keeps the told month.

@@ -1,6 +1,7 @@
 //! Discount factors from the par rates that are used, up to year 50, with grounds 7 to 9.
 
 use crate::enclosure::{div_down, div_up, Enclosure, RATE_UNIT, U};
+use crate::extrapolation::FIRST_SMOOTHING_POINT;
 use crate::forwards::{YearForwards, FIRST_FORWARD_YEAR};
 use crate::refusal::Refusal;
 use crate::series::neg_log;
@@ -14,7 +15,7 @@ const LOWEST_YEARLY_FACTOR: i128 = 800_000_000;
 const HIGHEST_YEARLY_FACTOR: i128 = 1_100_000_000;
 
 /// The largest allowed high of a discount factor.
-pub const LARGEST_HIGH: i128 = 2 * U;
+const LARGEST_HIGH: i128 = 2 * U;
 
 /// The result of the bootstrap.
 pub struct Bootstrap {
@@ -22,6 +23,13 @@ pub struct Bootstrap {
     pub factors: Vec<Enclosure>,
     /// Forwards of the same years from 16 on.
     pub forwards: YearForwards,
+}
+
+impl Bootstrap {
+    /// The factors of years 1 to 20, which are on the curve.
+    pub fn liquid(&self) -> &[Enclosure] {
+        &self.factors[..FIRST_SMOOTHING_POINT]
+    }
 }
 
 /// A quote that is used.
@@ -91,10 +99,7 @@ impl Years {
         if factor.low < 1 {
             return Err(Refusal::at(7, year));
         }
-        if factor.high > LARGEST_HIGH {
-            return Err(Refusal::at(8, year));
-        }
-        self.factors.push(factor);
+        self.factors.push(checked_high(factor, year)?);
         self.annuity = self.annuity.plus(factor);
         Ok(())
     }
@@ -118,6 +123,14 @@ impl Years {
         }
         Ok(yearly)
     }
+}
+
+/// The factor of `year`, or ground 8.
+pub fn checked_high(factor: Enclosure, year: usize) -> Result<Enclosure, Refusal> {
+    if factor.high > LARGEST_HIGH {
+        return Err(Refusal::at(8, year));
+    }
+    Ok(factor)
 }
 
 /// The factor of a quoted year from its par rate and the earlier years' sum.

@@ -1,13 +1,65 @@
-//! The curve of a sheet: 150 discount factors, with grounds 7 to 10.
+//! The curves of a sheet, each of 150 discount factors: the plain curve and, where the sheet has
+//! an adjustment, the adjusted curve; with grounds 7 to 10.
 
-use crate::bootstrap::bootstrap;
+use crate::adjustment::{adjusted_factors, adjusted_forwards};
+use crate::bootstrap::{bootstrap, Bootstrap};
 use crate::enclosure::Enclosure;
 use crate::extrapolation::{extrapolate, FIRST_SMOOTHING_POINT};
+use crate::forwards::YearForwards;
 use crate::refusal::Refusal;
 use crate::sheet::Sheet;
 
 /// Years on a curve.
 pub const YEARS: usize = 150;
+
+/// Which of a sheet's curves is meant.
+#[derive(Clone, Copy, Debug, PartialEq, Eq, PartialOrd, Ord)]
+pub enum Which {
+    Plain = 0,
+    Adjusted = 1,
+}
+
+impl Which {
+    /// Both curves.
+    pub const ALL: [Which; 2] = [Which::Plain, Which::Adjusted];
+
+    /// The curve that a number of the C interface names: bit 0 names the adjusted one, all other
+    /// bits are ignored.
+    pub fn named_by(kind: u64) -> Which {
+        Which::ALL[(kind & 1) as usize]
+    }
+}
+
+/// The curves of a sheet.
+#[derive(Clone, Debug, PartialEq, Eq)]
+pub struct Curves {
+    pub plain: Curve,
+    /// Of a sheet with an adjustment, be it 0.
+    pub adjusted: Option<Curve>,
+}
+
+impl Curves {
+    /// The sheet's curves, or the first of grounds 7 to 10 that applies: on the plain curve, then
+    /// 8 and 10 on the adjusted one.
+    pub fn of(sheet: &Sheet) -> Result<Curves, Refusal> {
+        let quoted = bootstrap(sheet)?;
+        Ok(Curves {
+            plain: Curve::of_quotes(sheet, &quoted)?,
+            adjusted: match sheet.adjustment {
+                Some(adjustment) => Some(Curve::adjusted(sheet, &quoted, adjustment)?),
+                None => None,
+            },
+        })
+    }
+
+    /// The named curve, if the sheet has it.
+    pub fn get(&self, which: Which) -> Option<&Curve> {
+        match which {
+            Which::Plain => Some(&self.plain),
+            Which::Adjusted => self.adjusted.as_ref(),
+        }
+    }
+}
 
 /// Discount factors of years 1 to 150, year y at index y - 1.
 #[derive(Clone, Debug, PartialEq, Eq)]
@@ -17,11 +69,30 @@ pub struct Curve {
 }
 
 impl Curve {
-    /// The sheet's curve, or the first of grounds 7 to 10 that applies.
-    pub fn of(sheet: &Sheet) -> Result<Curve, Refusal> {
-        let quoted = bootstrap(sheet)?;
-        let liquid = &quoted.factors[..FIRST_SMOOTHING_POINT];
-        let extrapolated = extrapolate(sheet, liquid[FIRST_SMOOTHING_POINT - 1], &quoted.forwards)?;
+    /// The sheet's plain curve, or the first of grounds 7 to 10 that applies to it.
+    pub fn plain(sheet: &Sheet) -> Result<Curve, Refusal> {
+        Curve::of_quotes(sheet, &bootstrap(sheet)?)
+    }
+
+    /// The plain curve, or ground 8 past year 20, or ground 10.
+    fn of_quotes(sheet: &Sheet, quoted: &Bootstrap) -> Result<Curve, Refusal> {
+        Curve::going_on(sheet, quoted.liquid(), &quoted.forwards)
+    }
+
+    /// The adjusted curve, or ground 8 in any year, or ground 10.
+    fn adjusted(sheet: &Sheet, quoted: &Bootstrap, adjustment: i16) -> Result<Curve, Refusal> {
+        let liquid = adjusted_factors(quoted.liquid(), adjustment)?;
+        let forwards = adjusted_forwards(&quoted.forwards, adjustment);
+        Curve::going_on(sheet, &liquid, &forwards)
+    }
+
+    /// The curve that goes on from its years to 20, or ground 8 past them, or ground 10.
+    fn going_on(
+        sheet: &Sheet,
+        liquid: &[Enclosure],
+        forwards: &YearForwards,
+    ) -> Result<Curve, Refusal> {
+        let extrapolated = extrapolate(sheet, liquid[FIRST_SMOOTHING_POINT - 1], forwards)?;
         let curve = Curve::collect(liquid.iter().chain(&extrapolated));
         curve.check_widths(i128::from(sheet.limit))?;
         Ok(curve)

@@ -3,6 +3,7 @@
 use std::io::{self, ErrorKind, Read, Write};
 
 use crate::book::{Book, LARGEST_AGE_LIMIT};
+use crate::curve::Which;
 use crate::refusal::Refusal;
 
 pub const POST: u8 = 0x50;
@@ -97,8 +98,9 @@ pub fn answer(book: &mut Book, call: &Call) -> String {
     make(book, call).unwrap_or_else(|refusal| refusal.to_string())
 }
 
+/// The desk's look-ups are of the plain curve.
 fn look_up_line(book: &Book, year: u8) -> Result<String, Refusal> {
-    let found = book.look_up(u32::from(year))?;
+    let found = book.look_up(Which::Plain, u32::from(year))?;
     let (low, high) = (found.factor.low, found.factor.high);
     Ok(format!(
         "L {year} {low} {high} {} {}",

@@ -4,16 +4,14 @@
 use std::collections::BTreeMap;
 use std::fmt;
 
-use crate::book::{Book, LARGEST_AGE_LIMIT};
 use crate::bootstrap::{par_factor, used_quotes};
+use crate::counts::Tally;
 use crate::curve::Curve;
-use crate::desk::{make, Call};
 use crate::enclosure::Enclosure;
-use crate::journal::calls;
 use crate::sheet::{Sheet, MATURITIES, QUOTE_20};
 use crate::streams::{
-    limit, phase_in, rates, sheet_bytes, steep_rates, ufr, volumes_of, Random, HIGHEST_QUOTE,
-    LARGEST_LIMIT, LOWEST_QUOTE,
+    edge, limit, phase_in, quote, rates, sheet_bytes, steep_rates, ufr, volumes_of, Random,
+    HIGHEST_QUOTE, LARGEST_LIMIT, LOWEST_QUOTE,
 };
 
 /// The patterns of volumes above 0 that have a 0 and are not all 0 are 1 to this one.
@@ -31,6 +29,7 @@ pub fn dropped_sheet(random: &mut Random, month: u16) -> Sheet {
         ufr: ufr(random),
         limit: LARGEST_LIMIT,
         phase_in: None,
+        adjustment: None,
     };
     if random.one_in(4) {
         phase_in(random, &mut sheet);
@@ -88,32 +87,22 @@ fn tenth_factor(rates: &[i16; 17]) -> Enclosure {
     par_factor(i128::from(rates[9]), annuity)
 }
 
-/// The rate cut to what a sheet may quote.
-fn quote(rate: i64) -> i16 {
-    rate.clamp(LOWEST_QUOTE, HIGHEST_QUOTE) as i16
-}
-
 /// Moves the rate at the end of a gap beyond 20 to the last that is accepted on the way to an
 /// end of its range, or to the next one, which is not: an end of the halving is then near.
 fn move_to_edge(random: &mut Random, sheet: &mut Sheet) {
     let ends: Vec<usize> = (QUOTE_20 + 1..MATURITIES.len())
         .filter(|&i| sheet.volumes[i - QUOTE_20] > 0)
         .collect();
-    if ends.is_empty() || Curve::of(sheet).is_err() {
+    if ends.is_empty() || Curve::plain(sheet).is_err() {
         return;
     }
     let i = random.one_of(&ends);
-    let mut passes = i64::from(sheet.rates[i]);
     // One step past the range counts as refused, where the whole range is accepted.
-    let mut fails = random.one_of(&[LOWEST_QUOTE - 1, HIGHEST_QUOTE + 1]);
-    while (fails - passes).abs() > 1 {
-        let middle = (fails + passes) / 2;
-        sheet.rates[i] = middle as i16;
-        match Curve::of(sheet) {
-            Ok(_) => passes = middle,
-            Err(_) => fails = middle,
-        }
-    }
+    let fails = random.one_of(&[LOWEST_QUOTE - 1, HIGHEST_QUOTE + 1]);
+    let (passes, fails) = edge(i64::from(sheet.rates[i]), fails, |rate| {
+        sheet.rates[i] = rate as i16;
+        Curve::plain(sheet).is_ok()
+    });
     sheet.rates[i] = quote(random.one_of(&[passes, fails]));
 }
 
@@ -146,26 +135,6 @@ pub fn typed_dropped_sheet(random: &mut Random, month: u16) -> Vec<u8> {
     bytes
 }
 
-/// How often something was posted, and how often it was accepted.
-#[derive(Clone, Copy, Debug, Default, PartialEq, Eq)]
-pub struct Tally {
-    pub posted: u64,
-    pub accepted: u64,
-}
-
-impl Tally {
-    fn count(&mut self, accepted: bool) {
-        self.posted += 1;
-        self.accepted += u64::from(accepted);
-    }
-}
-
-impl fmt::Display for Tally {
-    fn fmt(&self, f: &mut fmt::Formatter<'_>) -> fmt::Result {
-        write!(f, "{} ({} accepted)", self.posted, self.accepted)
-    }
-}
-
 /// The gaps that run on over a dropped maturity, by their ends, from 10 to 30 years.
 pub const MERGED_GAPS: [(usize, usize); 6] =
     [(20, 30), (25, 40), (20, 40), (30, 50), (25, 50), (20, 50)];
@@ -196,17 +165,6 @@ impl DroppedPosts {
         for gap in used.windows(2).map(|ends| (ends[0], ends[1])) {
             if MERGED_GAPS.contains(&gap) {
                 self.by_gap.entry(gap).or_default().count(accepted);
-            }
-        }
-    }
-
-    /// Counts the posts of a journal, each after what comes before it.
-    pub fn count_journal(&mut self, journal: &[u8]) {
-        let mut book = Book::new(LARGEST_AGE_LIMIT);
-        for call in calls(journal) {
-            let accepted = make(&mut book, &call).is_ok();
-            if let Call::Post(sheet) = call {
-                self.count(&sheet, accepted);
             }
         }
     }

@@ -6,6 +6,9 @@ pub const U: i128 = 1_000_000_000;
 /// Hundred-thousandths in one, the unit of par rates.
 pub const RATE_UNIT: i128 = 100_000;
 
+/// Billionths in a hundred-thousandth: a rate times this is in the unit of forwards.
+pub const RATE_STEP: i128 = U / RATE_UNIT;
+
 /// A quotient rule: either `div_down` or `div_up`.
 pub type Round = fn(i128, i128) -> i128;
 

@@ -13,7 +13,13 @@ pub type Answered = (Vec<u8>, u8, u8);
 
 /// The records in order.
 pub fn records() -> Vec<Answered> {
-    [desk_records(), dropped_records(), aging_records()].concat()
+    [
+        desk_records(),
+        dropped_records(),
+        adjusted_records(),
+        aging_records(),
+    ]
+    .concat()
 }
 
 /// The records that meet every ground a desk's record can meet: all but 16. No curve in them
@@ -34,7 +40,7 @@ pub fn base_records() -> Vec<Answered> {
         (followed_by(&[0x06, 0x4E, 0x20, 0]), 1, 0),
         (post(&[0; 109]), 2, 1),
         (post(&[0; 112]), 2, 1),
-        (followed_by(&[0x07, 0x4E, 0x20]), 2, 26),
+        (followed_by(&[0x07, 0x4E, 0x20]), 3, 26),
         (posted(with_rate(zero(), 12, 12_001)), 3, 12),
         (posted(with_x(9_999)), 3, 26),
         (posted(with_x(20_001)), 3, 26),
@@ -144,6 +150,98 @@ pub fn dropped_records() -> Vec<Answered> {
     ]
 }
 
+/// What follows `base_records` or `dropped_records` and leaves the book as they do: tails of
+/// sheets, and sheets that their adjusted curve alone turns down.
+pub fn adjusted_records() -> Vec<Answered> {
+    [
+        tail_records(),
+        adjusted_sheet_records(),
+        adjusted_curve_records(),
+    ]
+    .concat()
+}
+
+/// Each last record and both, and tails that are wrong.
+fn tail_records() -> Vec<Answered> {
+    let followed_by = |tail: &[u8]| post(&[&sheet_bytes(&of_month(1)), tail].concat());
+    vec![
+        (followed_by(&[0x07, 0x00, 0x00]), 0, 0),
+        (look_up(150), 0, 0),
+        // 500 and -500, 501 and -501.
+        (followed_by(&[0x07, 0x01, 0xF4]), 0, 0),
+        (followed_by(&[0x07, 0xFE, 0x0C]), 0, 0),
+        (followed_by(&[0x07, 0x01, 0xF5]), 3, 26),
+        (followed_by(&[0x07, 0xFE, 0x0B]), 3, 26),
+        (followed_by(&[0x06, 0x27, 0x10, 0x07, 0x00, 0x00]), 0, 0),
+        (followed_by(&[0x06, 0x27, 0x10, 0x07, 0x01, 0xF5]), 3, 27),
+        (followed_by(&[0x06, 0x27, 0x0F, 0x07, 0x01, 0xF5]), 3, 26),
+        (followed_by(&[0x06, 0x27, 0x0F, 0x07, 0x00, 0x00]), 3, 26),
+        (followed_by(&[0x05, 0x00, 0x00]), 2, 26),
+        (followed_by(&[0x08, 0x00, 0x00]), 2, 26),
+        (followed_by(&[0x07, 0x00, 0x00, 0x06, 0x27, 0x10]), 2, 26),
+        (followed_by(&[0x07, 0x00, 0x00, 0x07, 0x00, 0x00]), 2, 26),
+        (followed_by(&[0x06, 0x27, 0x10, 0x06, 0x27, 0x10]), 2, 27),
+        (followed_by(&[0x06, 0x00, 0x00, 0x08, 0x00, 0x00]), 2, 27),
+        (followed_by(&[0x07]), 1, 0),
+        (followed_by(&[0x07, 0x00]), 1, 0),
+        (followed_by(&[0x07, 0x00, 0x00, 0x06]), 1, 0),
+        (followed_by(&[0x06, 0x27, 0x10, 0x07, 0x00]), 1, 0),
+        (
+            followed_by(&[0x06, 0x27, 0x10, 0x07, 0x00, 0x00, 0x00]),
+            1,
+            0,
+        ),
+        (post(&[0; 115]), 2, 1),
+        (look_up(150), 0, 0),
+    ]
+}
+
+/// Grounds 4 to 9 with an adjustment, whatever it is.
+fn adjusted_sheet_records() -> Vec<Answered> {
+    let posted = |sheet: Sheet| post(&sheet_bytes(&adjusted(sheet, 500)));
+    let of_month_1 = |sheet: Sheet| posted(with_volumes(sheet, [1; 5]));
+    vec![
+        (posted(untraded()), 4, 0),
+        (posted(of_month(3)), 5, 0),
+        (posted(of_month(0)), 6, 0),
+        (of_month_1(fall()), 7, 10),
+        (of_month_1(flat(-2_000)), 8, 35),
+        (of_month_1(with_rate(flat(3_000), 12, 12_000)), 9, 12),
+    ]
+}
+
+/// Grounds 8 and 10 on either curve. The zero sheet's widest band is 2,209, in year 150, and each
+/// year past 20 has one about 17 wider than the year before. An adjustment of 0 takes 1 from the
+/// low at each of its steps, 20 in year 20, so that every later band is 20 wider.
+fn adjusted_curve_records() -> Vec<Answered> {
+    let posted = |sheet: Sheet| post(&sheet_bytes(&sheet));
+    let at_0 = |limit| {
+        let sheet = adjusted(of_month(1), 0);
+        posted(Sheet { limit, ..sheet })
+    };
+    let near_2_u = |adjustment| adjusted(rising_beyond_20(), adjustment);
+    let narrow = Sheet {
+        limit: 1,
+        ..near_2_u(-500)
+    };
+    vec![
+        (at_0(2_208), 10, 150),
+        (at_0(2_209), 10, 149),
+        (at_0(2_228), 10, 150),
+        (at_0(2_229), 0, 0),
+        // Year 20 is 0.981^-20 U, about 1.4676 U, the forward of 15-20 about -0.01918. With -500
+        // that is 1.4676 U × e^0.1, and 21 years on × e^(0.02418 × 10 × (1 - e^-2.1)): 2.0054 U.
+        (posted(rising_beyond_20()), 0, 0),
+        (look_up(41), 0, 0),
+        (posted(near_2_u(-500)), 8, 41),
+        (posted(near_2_u(500)), 0, 0),
+        // The plain curve comes first.
+        (posted(narrow), 10, 11),
+        (look_up(41), 0, 0),
+        (posted(of_month(1)), 0, 0),
+    ]
+}
+
 /// What follows `desk_records`, which leave month 2 told and the curve of month 1: curves at
 /// the limit and one month past it, and what closes and opens the book.
 fn aging_records() -> Vec<Answered> {
@@ -193,6 +291,7 @@ fn zero() -> Sheet {
         ufr: 0,
         limit: 100_000,
         phase_in: None,
+        adjustment: None,
     }
 }
 
@@ -208,6 +307,13 @@ fn with_x(x: u16) -> Sheet {
     Sheet {
         phase_in: Some(x),
         ..zero()
+    }
+}
+
+fn adjusted(sheet: Sheet, adjustment: i16) -> Sheet {
+    Sheet {
+        adjustment: Some(adjustment),
+        ..sheet
     }
 }
 
@@ -232,6 +338,18 @@ fn with_volumes(sheet: Sheet, volumes: [u32; 5]) -> Sheet {
         volumes,
         ..sheet
     }
+}
+
+/// A sheet of month 1 with rates of -1.9% to 20 years and rising ones beyond, in which the forward
+/// of 15-20 has nearly all of the weight: its plain curve stays below 1.8 U.
+fn rising_beyond_20() -> Sheet {
+    let later = [(25, -1_750), (30, -1_600), (40, -1_400), (50, -1_300)];
+    let sheet = later
+        .into_iter()
+        .fold(flat(-1_900), |sheet, (maturity, rate)| {
+            with_rate(sheet, maturity, rate)
+        });
+    with_volumes(sheet, [1_000_000, 1, 1, 1, 1])
 }
 
 /// A sheet of month 1 whose quotes past 20 are all dropped.

@@ -2,8 +2,8 @@
 
 use std::ops::RangeInclusive;
 
-use crate::bootstrap::LARGEST_HIGH;
-use crate::enclosure::{div_down, div_up, Enclosure, Round, U};
+use crate::bootstrap::checked_high;
+use crate::enclosure::{div_down, div_up, Enclosure, Round, RATE_STEP, U};
 use crate::forwards::YearForwards;
 use crate::refusal::Refusal;
 use crate::series::{growth, neg_log};
@@ -12,9 +12,6 @@ use crate::weights::weights;
 
 /// The last year whose factor comes from the quotes.
 pub const FIRST_SMOOTHING_POINT: usize = 20;
-
-/// Billionths in one unit of the ultimate forward rate.
-pub const UFR_UNIT: i128 = 10_000;
 
 /// Years 21 to 150 from the factor of year 20, or ground 8.
 pub fn extrapolate(
@@ -28,17 +25,14 @@ pub fn extrapolate(
     let mut factors = Vec::new();
     for (i, weight) in weights(sheet.convergence()).into_iter().enumerate() {
         factor = next_factor(factor, year_forward(ultimate, last_liquid, weight));
-        if factor.high > LARGEST_HIGH {
-            return Err(Refusal::at(8, FIRST_SMOOTHING_POINT + 1 + i));
-        }
-        factors.push(factor);
+        factors.push(checked_high(factor, FIRST_SMOOTHING_POINT + 1 + i)?);
     }
     Ok(factors)
 }
 
 /// L, the enclosure of ln(1 + UFR).
 pub fn log_ultimate(ufr: u16) -> Enclosure {
-    neg_log(U + UFR_UNIT * i128::from(ufr)).negated()
+    neg_log(U + RATE_STEP * i128::from(ufr)).negated()
 }
 
 /// The years over whose forwards each volume's mean is taken: from 15 to maturity 20, from 20
@@ -79,7 +73,7 @@ fn year_forward(ultimate: Enclosure, last_liquid: Enclosure, weight: Enclosure) 
 }
 
 /// The year's factor: the factor of the year before times e to minus the forward.
-fn next_factor(before: Enclosure, forward: Enclosure) -> Enclosure {
+pub fn next_factor(before: Enclosure, forward: Enclosure) -> Enclosure {
     let low = if forward.high >= 0 {
         div_down(before.low * U, growth(forward.high).high)
     } else {

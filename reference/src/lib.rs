@@ -1,12 +1,15 @@
 //! Second implementation of the dated euro curve book: sheet reading, bootstrap
-//! from par rates, extrapolation, zero rates, the book itself, and the true curve of
+//! from par rates, extrapolation, adjustment, zero rates, the book itself, and the true curve of
 //! order n against which the enclosures and the rates are checked.
 
+pub mod adjusted;
+pub mod adjustment;
 pub mod arguments;
 pub mod bigint;
 pub mod book;
 pub mod bootstrap;
 pub mod convergence;
+pub mod counts;
 pub mod curve;
 pub mod desk;
 pub mod dropped;

@@ -1,7 +1,9 @@
 //! Seeded questions for comparing two libraries: journals, records asked about after them, and
 //! age limits to ask under.
 
+use crate::adjusted::{adjustment, typed_adjusted_sheet};
 use crate::book::{Book, LARGEST_AGE_LIMIT};
+use crate::curve::Which;
 use crate::dropped::typed_dropped_sheet;
 use crate::journal::{look_up, post, turn};
 use crate::streams::{sheet, sheet_bytes, steep_sheet, typed_sheet, Random};
@@ -17,7 +19,8 @@ const MONTHS: u64 = 2;
 const SMALL_LIMITS: u64 = 6;
 
 /// A journal of up to 11 records: whole, damaged, cut or empty, with sheets of any length. One
-/// in 8 ends with one more record, a steep sheet, on which look-ups meet ground 17.
+/// in 8 ends with one more record, a steep sheet with or without an adjustment, on which look-ups
+/// meet ground 17.
 pub fn journal(random: &mut Random) -> Vec<u8> {
     let mut journal = Vec::new();
     let mut told = 0;
@@ -36,7 +39,9 @@ pub fn journal(random: &mut Random) -> Vec<u8> {
         }
     }
     if random.one_in(8) {
-        journal.extend(post(&sheet_bytes(&steep_sheet(random, told))));
+        let mut steep = steep_sheet(random, told);
+        steep.adjustment = random.one_in(2).then(|| adjustment(random));
+        journal.extend(post(&sheet_bytes(&steep)));
     }
     damage(random, &mut journal);
     journal
@@ -52,13 +57,14 @@ fn later(random: &mut Random, told: u16) -> u16 {
     }
 }
 
-/// The record of a post; one in 3 is of a sheet with dropped quotes.
+/// The record of a post; one in 3 is of a sheet with dropped quotes, and as many are of sheets
+/// with an adjustment.
 pub fn posted(random: &mut Random, month: u16) -> Vec<u8> {
-    if random.one_in(3) {
-        post(&typed_dropped_sheet(random, month))
-    } else {
-        post(&typed_sheet(random, month))
-    }
+    post(&match random.below(3) {
+        0 => typed_dropped_sheet(random, month),
+        1 => typed_adjusted_sheet(random, month),
+        _ => typed_sheet(random, month),
+    })
 }
 
 /// Puts any byte in some place, or cuts the bytes; most often neither.
@@ -147,6 +153,18 @@ pub fn age_limits(random: &mut Random) -> [u64; 10] {
         random.number(),
         u64::MAX,
     ]
+}
+
+/// A number that names the curve: bit 0 tells which, and others are set in most.
+pub fn kind(random: &mut Random, which: Which) -> u64 {
+    let others = match random.below(6) {
+        0 | 1 => 0,
+        2 => 1 << random.between(1, 63),
+        3 => 1 << 32,
+        4 => u64::MAX,
+        _ => random.number(),
+    };
+    (others & !1) | which as u64
 }
 
 /// The limits at which a curve of `age` is just shown and just too old, and the one above.

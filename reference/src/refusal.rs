@@ -34,7 +34,7 @@ impl Refusal {
 
 /// The grounds in words, that of number n at index n - 1.
 const REASONS: [&str; 17] = [
-    "the sheet's length is neither 109 nor 112",
+    "the sheet's length is none of 109, 112 and 115",
     "a record's kind or maturity is not the one due",
     "a number is outside its range",
     "no volume is above 0",

@@ -31,12 +31,15 @@ pub struct Sheet {
     pub limit: u32,
     /// X of the phase-in in hundred-thousandths, on a sheet that has its record.
     pub phase_in: Option<u16>,
+    /// Volatility adjustment in hundred-thousandths, on a sheet that has its record. One of 0 is
+    /// not the same as none.
+    pub adjustment: Option<i16>,
 }
 
 impl Sheet {
     /// The sheet held by `bytes`, or the first of grounds 1 to 4 that applies.
     pub fn read(bytes: &[u8]) -> Result<Sheet, Refusal> {
-        let dues = dues(bytes.len()).ok_or(Refusal::plain(1))?;
+        let dues = dues(bytes).ok_or(Refusal::plain(1))?;
         let records = split(bytes, dues);
         check(2, &records, Record::is_due)?;
         check(3, &records, Record::in_range)?;
@@ -57,6 +60,7 @@ enum Kind {
     Ufr = 0x04,
     Limit = 0x05,
     PhaseIn = 0x06,
+    Adjustment = 0x07,
 }
 
 impl Kind {
@@ -77,7 +81,13 @@ impl Kind {
             Kind::Ufr => 0..=10_000,
             Kind::Limit => 1..=100_000,
             Kind::PhaseIn => 10_000..=20_000,
+            Kind::Adjustment => -500..=500,
         }
+    }
+
+    /// Whether the number is in two's complement.
+    fn is_signed(self) -> bool {
+        matches!(self, Kind::Rate | Kind::Adjustment)
     }
 }
 
@@ -108,13 +118,26 @@ impl Due {
     }
 }
 
-/// The dues of a sheet of `length` bytes, or none if no sheet is that long.
-fn dues(length: usize) -> Option<Vec<Due>> {
-    let required = required();
-    let with_phase_in = [&required[..], &[Due::plain(Kind::PhaseIn)]].concat();
-    [required, with_phase_in]
-        .into_iter()
-        .find(|dues| dues.iter().map(|due| due.length()).sum::<usize>() == length)
+/// The dues of the sheet in `bytes`, or none if no sheet is that long.
+fn dues(bytes: &[u8]) -> Option<Vec<Due>> {
+    let mut dues = required();
+    let length = dues.iter().map(|due| due.length()).sum();
+    dues.extend(tail(bytes.get(length..)?)?.iter().copied().map(Due::plain));
+    Some(dues)
+}
+
+/// What is due in the bytes past the required records. Each record there has three bytes, so
+/// the kind byte must tell which one a sheet has that has one alone; where it is of neither
+/// kind, the phase-in is due.
+fn tail(bytes: &[u8]) -> Option<&'static [Kind]> {
+    const ADJUSTMENT: u8 = Kind::Adjustment as u8;
+    match bytes {
+        [] => Some(&[]),
+        [ADJUSTMENT, _, _] => Some(&[Kind::Adjustment]),
+        [_, _, _] => Some(&[Kind::PhaseIn]),
+        [_, _, _, _, _, _] => Some(&[Kind::PhaseIn, Kind::Adjustment]),
+        _ => None,
+    }
 }
 
 /// The dues that every sheet has.
@@ -151,11 +174,12 @@ impl Record<'_> {
         self.bytes[0] == self.due.kind as u8 && maturity_is_due
     }
 
-    /// The number that ends the record; rates are in two's complement.
+    /// The number that ends the record.
     fn number(&self) -> i64 {
-        let bytes = &self.bytes[self.bytes.len() - self.due.kind.number_length()..];
-        match (self.due.kind, bytes) {
-            (Kind::Rate, &[high, low]) => i64::from(i16::from_be_bytes([high, low])),
+        let kind = self.due.kind;
+        let bytes = &self.bytes[self.bytes.len() - kind.number_length()..];
+        match bytes {
+            &[high, low] if kind.is_signed() => i64::from(i16::from_be_bytes([high, low])),
             _ => bytes
                 .iter()
                 .fold(0, |sum, &byte| 256 * sum + i64::from(byte)),
@@ -188,6 +212,7 @@ fn decode(records: &[Record]) -> Sheet {
         ufr: single(records, Kind::Ufr),
         limit: single(records, Kind::Limit),
         phase_in: numbers(records, Kind::PhaseIn).next(),
+        adjustment: numbers(records, Kind::Adjustment).next(),
     }
 }
 

@@ -1,9 +1,10 @@
 //! Seeded sheets and record streams: ordinary, extreme and damaged ones, for
 //! comparing two desks on the same input.
 
+use crate::adjusted::{adjustment, typed_adjusted_sheet};
 use crate::bootstrap::par_factor;
 use crate::convergence::{TEN_PERCENT, X_OUTSIDE_PHASE_IN};
-use crate::curve::{Curve, YEARS};
+use crate::curve::{Curve, Curves, YEARS};
 use crate::dropped::typed_dropped_sheet;
 use crate::enclosure::{Enclosure, RATE_UNIT, U};
 use crate::journal::{look_up, post, turn};
@@ -15,8 +16,8 @@ pub(crate) const LARGEST_LIMIT: u32 = 100_000;
 pub(crate) const LOWEST_QUOTE: i64 = -2_000;
 pub(crate) const HIGHEST_QUOTE: i64 = 12_000;
 
-/// Bytes of a sheet without the phase-in's record.
-const REQUIRED_LENGTH: usize = 109;
+/// Bytes of a sheet without a record for the phase-in or the adjustment.
+pub(crate) const REQUIRED_LENGTH: usize = 109;
 
 /// Repeatable random numbers (splitmix64): the same seed gives the same stream on
 /// every machine.
@@ -76,7 +77,34 @@ pub fn sheet_bytes(sheet: &Sheet) -> Vec<u8> {
         bytes.push(0x06);
         bytes.extend(x.to_be_bytes());
     }
+    if let Some(adjustment) = sheet.adjustment {
+        bytes.push(0x07);
+        bytes.extend(adjustment.to_be_bytes());
+    }
     bytes
+}
+
+/// The rate cut to what a sheet may quote.
+pub(crate) fn quote(rate: i64) -> i16 {
+    rate.clamp(LOWEST_QUOTE, HIGHEST_QUOTE) as i16
+}
+
+/// Halves the way from a number that passes to one that does not: the last on it that passes and
+/// the next one, where all that pass come first.
+pub(crate) fn edge(
+    mut passes: i64,
+    mut fails: i64,
+    mut accepts: impl FnMut(i64) -> bool,
+) -> (i64, i64) {
+    while (fails - passes).abs() > 1 {
+        let middle = (fails + passes) / 2;
+        if accepts(middle) {
+            passes = middle;
+        } else {
+            fails = middle;
+        }
+    }
+    (passes, fails)
 }
 
 /// Rates of one shape: a level, a slope over the maturities, and noise.
@@ -92,7 +120,7 @@ pub(crate) fn rates(random: &mut Random) -> [i16; 17] {
     let mut rates = [0; 17];
     for (rate, maturity) in rates.iter_mut().zip(MATURITIES) {
         let shaped = level + slope * i64::from(maturity) + random.between(-noise, noise);
-        *rate = shaped.clamp(-2_000, 12_000) as i16;
+        *rate = quote(shaped);
     }
     if random.one_in(15) {
         step(random, &mut rates);
@@ -146,6 +174,7 @@ pub fn sheet(random: &mut Random, month: u16) -> Sheet {
         ufr: ufr(random),
         limit: LARGEST_LIMIT,
         phase_in: None,
+        adjustment: None,
     };
     if random.one_in(2) {
         phase_in(random, &mut sheet);
@@ -190,26 +219,25 @@ pub(crate) fn phase_in(random: &mut Random, sheet: &mut Sheet) {
     };
     let shift = rate_20 - i64::from(sheet.rate_20());
     for rate in &mut sheet.rates {
-        *rate = (i64::from(*rate) + shift).clamp(-2_000, 12_000) as i16;
+        *rate = quote(i64::from(*rate) + shift);
     }
 }
 
-/// The widest band of the sheet's curve, so that a limit can stand at it or just below.
+/// The widest band of the sheet's plain curve, so that a limit can stand at it or just below.
 fn widest(sheet: &Sheet) -> u32 {
-    let Some(curve) = worked(sheet) else {
-        return LARGEST_LIMIT;
-    };
-    let width = |year| curve.factor(year).high - curve.factor(year).low;
-    (1..=YEARS)
-        .map(width)
-        .max()
-        .map_or(LARGEST_LIMIT, |w| w.max(1) as u32)
+    worked(sheet).map_or(LARGEST_LIMIT, |curves| widest_band(&curves.plain))
 }
 
-/// The curve of a sheet in range, unless ground 4 or 7 to 10 applies.
-pub fn worked(sheet: &Sheet) -> Option<Curve> {
+/// The widest band of the curve, as the least limit within which it is.
+pub fn widest_band(curve: &Curve) -> u32 {
+    let widths = (1..=YEARS).map(|year| curve.factor(year).width());
+    widths.max().map_or(1, |width| width.max(1) as u32)
+}
+
+/// The curves of a sheet in range, unless ground 4 or 7 to 10 applies.
+pub fn worked(sheet: &Sheet) -> Option<Curves> {
     let traded = sheet.volumes.iter().any(|&volume| volume > 0);
-    traded.then(|| Curve::of(sheet).ok()).flatten()
+    traded.then(|| Curves::of(sheet).ok()).flatten()
 }
 
 /// A sheet whose ninth or tenth factor is next to 0: what ground 17 is for. Its years from
@@ -230,6 +258,7 @@ pub fn steep_sheet(random: &mut Random, month: u16) -> Sheet {
         phase_in: random
             .one_in(4)
             .then(|| random.between(10_000, 20_000) as u16),
+        adjustment: None,
     }
 }
 
@@ -279,6 +308,7 @@ pub fn low_rates(month: u16, phase_in: Option<u16>) -> Sheet {
         ufr: 360,
         limit: LARGEST_LIMIT,
         phase_in,
+        adjustment: None,
     }
 }
 
@@ -385,6 +415,16 @@ fn dropped_records(random: &mut Random, told: u16) -> Vec<u8> {
     records
 }
 
+/// The post of a sheet with an adjustment and look-ups, which are of its plain curve: on both
+/// sides of year 20, and anywhere.
+fn adjusted_records(random: &mut Random, told: u16) -> Vec<u8> {
+    let mut records = post(&typed_adjusted_sheet(random, told));
+    for (first, last) in [(1, 20), (21, 150), (1, 150)] {
+        records.extend(look_up(random.between(first, last) as u8));
+    }
+    records
+}
+
 /// A stream of `count` whole records.
 pub fn records(random: &mut Random, count: usize) -> Vec<u8> {
     let mut told = 0;
@@ -395,9 +435,9 @@ pub fn records(random: &mut Random, count: usize) -> Vec<u8> {
     stream
 }
 
-/// A stream of `count` records, and a few of a steep sheet after one in 60 of them and of a
-/// sheet with dropped quotes after one in 8, so that the other grounds are met as often as
-/// without; sometimes cut, with any byte in one place (a wrong length shifts all that follows),
+/// A stream of `count` records, and a few of a steep sheet after one in 60 of them, of a sheet
+/// with dropped quotes after one in 8 and of one with an adjustment after one in 5, so that the
+/// other grounds are met as often as without; sometimes cut, with any byte in one place (a wrong length shifts all that follows),
 /// or ended by any kind.
 pub fn stream(seed: u64, count: usize) -> Vec<u8> {
     let mut random = Random::new(seed);
@@ -410,6 +450,9 @@ pub fn stream(seed: u64, count: usize) -> Vec<u8> {
         }
         if random.one_in(8) {
             stream.extend(dropped_records(&mut random, told));
+        }
+        if random.one_in(5) {
+            stream.extend(adjusted_records(&mut random, told));
         }
     }
     let at = random.below(stream.len() as u64 + 1) as usize;
@@ -431,12 +474,19 @@ pub enum Measured {
     PhaseIn,
     /// No volume at 30 and 40, so that the gap 25-50 is filled in place of three.
     TwoDropped,
+    /// An adjustment, so that a second curve is worked.
+    Adjusted,
 }
 
 impl Measured {
-    const ALL: [Measured; 3] = [Measured::Plain, Measured::PhaseIn, Measured::TwoDropped];
+    const ALL: [Measured; 4] = [
+        Measured::Plain,
+        Measured::PhaseIn,
+        Measured::TwoDropped,
+        Measured::Adjusted,
+    ];
 
-    /// The sheet, which has an X and all volumes, in this form.
+    /// The sheet, which has an X, an adjustment and all volumes, in this form.
     fn form(self, sheet: &Sheet) -> Sheet {
         let [v20, v25, _, _, v50] = sheet.volumes;
         Sheet {
@@ -445,6 +495,7 @@ impl Measured {
                 _ => sheet.volumes,
             },
             phase_in: sheet.phase_in.filter(|_| self == Measured::PhaseIn),
+            adjustment: sheet.adjustment.filter(|_| self == Measured::Adjusted),
             ..sheet.clone()
         }
     }
@@ -459,6 +510,7 @@ pub fn accepted_posts(seed: u64, count: usize, measured: Measured) -> Vec<u8> {
     while done < count {
         let mut sheet = sheet(&mut random, 1);
         sheet.limit = LARGEST_LIMIT;
+        sheet.adjustment = Some(adjustment(&mut random));
         let suits = sheet.convergence() != TEN_PERCENT && sheet.volumes.iter().all(|&v| v > 0);
         let accepted = |form: &Measured| worked(&form.form(&sheet)).is_some();
         if suits && Measured::ALL.iter().all(accepted) {

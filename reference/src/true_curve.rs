@@ -4,7 +4,8 @@
 //! Years from the quotes are exact fractions: the earlier years' sum and the newest
 //! factor share one denominator, below 1,700 bits up to order 3 whichever maturities
 //! are traded, so the search for a gap's yearly factor compares whole numbers and no
-//! tie can be undecided.
+//! tie can be undecided. So are adjusted years to 20: e to minus the adjustment of order n is a
+//! fraction too, of a denominator below 300 bits up to order 3.
 //! From the logarithm on, exact fractions would grow to millions of digits; there
 //! every value is an interval of fixed-point numbers with 1,024 bits (308 decimal
 //! digits) and outward rounding, and the precision is doubled when a comparison with
@@ -12,9 +13,9 @@
 
 use crate::bigint::BigInt;
 use crate::convergence::RATE_BOUND;
-use crate::curve::{Curve, YEARS};
-use crate::enclosure::{Enclosure, RATE_UNIT, U};
-use crate::extrapolation::{FIRST_SMOOTHING_POINT, UFR_UNIT};
+use crate::curve::{Curve, Which, YEARS};
+use crate::enclosure::{Enclosure, RATE_STEP, RATE_UNIT, U};
+use crate::extrapolation::FIRST_SMOOTHING_POINT;
 use crate::interval::Interval;
 use crate::rates::ZeroRates;
 use crate::sheet::{Sheet, MATURITIES, VOLUME_MATURITIES};
@@ -48,6 +49,14 @@ impl Fraction {
         Fraction {
             numerator: BigInt::from(numerator),
             denominator: BigInt::from(denominator),
+        }
+    }
+
+    /// The product, not in lowest terms.
+    fn times(&self, other: &Self) -> Self {
+        Fraction {
+            numerator: &self.numerator * &other.numerator,
+            denominator: &self.denominator * &other.denominator,
         }
     }
 
@@ -95,9 +104,18 @@ pub struct NoYearlyFactor {
     pub maturity: u8,
 }
 
-/// Checks every year of `curve` against the sheet's true curve of order `order`.
-pub fn check(sheet: &Sheet, curve: &Curve, order: usize) -> Result<Vec<YearCheck>, NoYearlyFactor> {
-    let quotes = TrueQuotes::of(sheet, order)?;
+/// Checks every year of `curve` against the named true curve of the sheet, of order `order`.
+/// A true adjusted curve is asked for of sheets with an adjustment alone.
+pub fn check(
+    sheet: &Sheet,
+    which: Which,
+    curve: &Curve,
+    order: usize,
+) -> Result<Vec<YearCheck>, NoYearlyFactor> {
+    let mut quotes = TrueQuotes::of(sheet, order)?;
+    if which == Which::Adjusted {
+        quotes.adjust(sheet.adjustment.expect("a sheet with an adjustment"), order);
+    }
     let checks = PRECISIONS
         .iter()
         .find_map(|&bits| extrapolated_checks(sheet, curve, &quotes, order, bits))
@@ -109,10 +127,13 @@ pub fn check(sheet: &Sheet, curve: &Curve, order: usize) -> Result<Vec<YearCheck
 
 /// The part of the true curve that comes from the quotes.
 struct TrueQuotes {
-    /// True factors of year 1 to the longest maturity that counts, in billionths.
+    /// True factors of year 1 to the longest maturity that counts, or of adjusted years to 20,
+    /// in billionths.
     factors: Vec<Fraction>,
     /// Every stretch of years with one forward.
     gaps: Vec<TrueGap>,
+    /// What f15,20 has more in LLFR, as a part of one.
+    gain: Fraction,
 }
 
 /// The years after `start` up to `end`, through which the forward is the same.
@@ -145,8 +166,47 @@ impl TrueQuotes {
             }
             years.push_par_factor(&rate);
         }
-        let factors = years.factors;
-        Ok(TrueQuotes { factors, gaps })
+        Ok(TrueQuotes {
+            factors: years.factors,
+            gaps,
+            gain: Fraction::new(0, 1),
+        })
+    }
+
+    /// Makes the plain years to 20 the adjusted ones: that of year t times the t-th power of e to
+    /// minus the adjustment; f15,20 gains the adjustment. Later years are not on the curve.
+    fn adjust(&mut self, adjustment: i16, order: usize) {
+        let yearly = true_exp_of_minus(adjustment, order);
+        let mut power = Fraction::new(1, 1);
+        self.factors.truncate(FIRST_SMOOTHING_POINT);
+        for factor in &mut self.factors {
+            power = power.times(&yearly);
+            *factor = factor.times(&power);
+        }
+        self.gain = Fraction::new(i128::from(adjustment), RATE_UNIT);
+    }
+}
+
+/// e to minus the adjustment, of order n: one over the sum at an adjustment of 0 or more, else
+/// the sum at its size.
+fn true_exp_of_minus(adjustment: i16, order: usize) -> Fraction {
+    let size = i128::from(adjustment).abs();
+    let (mut numerator, mut denominator) = (BigInt::one(), BigInt::one());
+    // 1 + y/1 × (1 + y/2 × (1 + ..)), from the last term inward, with y = size / 100,000.
+    for i in (1..=LAST_EXP_TERM + order).rev() {
+        denominator = &denominator * &BigInt::from(RATE_UNIT * i as i128);
+        numerator = &denominator + &(&numerator * &BigInt::from(size));
+    }
+    if adjustment < 0 {
+        Fraction {
+            numerator,
+            denominator,
+        }
+    } else {
+        Fraction {
+            numerator: denominator,
+            denominator: numerator,
+        }
     }
 }
 
@@ -377,7 +437,7 @@ fn true_extrapolation(
 
 /// ln(1 + UFR) as a part of one: minus G at U + 10,000 × UFR.
 fn true_log_ultimate(ufr: u16, order: usize, bits: usize) -> Interval {
-    let x = BigInt::from(U + UFR_UNIT * i128::from(ufr));
+    let x = BigInt::from(U + RATE_STEP * i128::from(ufr));
     true_neg_log(&x, &BigInt::from(U), order, bits).neg()
 }
 
@@ -407,8 +467,12 @@ fn true_last_liquid_forward(
     let traded: Vec<_> = traded.filter(|&(_, volume)| volume > 0).collect();
     let mut sum = Interval::integer(0, bits);
     for &(maturity, volume) in &traded {
-        let start = if maturity == 20 { 15 } else { 20 };
-        let forward = quotes.forward(start, usize::from(maturity), order, bits);
+        let forward = if maturity == 20 {
+            let gain = quotes.gain.interval(bits);
+            quotes.forward(15, 20, order, bits).add(&gain)
+        } else {
+            quotes.forward(20, usize::from(maturity), order, bits)
+        };
         sum = sum.add(&forward.times(i128::from(volume)));
     }
     sum.div_whole(traded.iter().map(|&(_, volume)| i128::from(volume)).sum())

@@ -7,6 +7,7 @@ use std::ffi::OsString;
 use common::{flat, zero, Numbers};
 use reference::arguments;
 use reference::book::{Book, LARGEST_AGE_LIMIT, PAGE_LENGTH};
+use reference::curve::Which;
 use reference::desk::{make, run_desk};
 use reference::every_ground::{records, AGE_LIMIT};
 use reference::journal::{answer_after, answer_on, book_after, calls, look_up, post, turn};
@@ -51,13 +52,13 @@ fn aged(age_limit: u64, month: u16, age: u16) -> Book {
 
 /// The number of the look-up's refusal, or 0.
 fn looked(book: &Book, year: u32) -> u8 {
-    book.look_up(year).err().map_or(0, number)
+    book.look_up(Which::Plain, year).err().map_or(0, number)
 }
 
 /// The number of the page's refusal, or 0; a refusal leaves the buffer.
 fn paged(book: &Book, length: usize) -> u8 {
     let mut buffer = vec![7; length];
-    let refusal = book.page(&mut buffer).err();
+    let refusal = book.page(Which::Plain, &mut buffer).err();
     if refusal.is_some() {
         assert_eq!(buffer, vec![7; length]);
     }
@@ -107,13 +108,16 @@ fn a_shown_curve_is_found_as_without_a_limit() {
     for limit in LIMITS.into_iter().filter(|&limit| limit >= 2) {
         let (book, free) = (aged(limit, 5, 2), aged(LARGEST_AGE_LIMIT, 5, 2));
         for year in 1..=150 {
-            assert_eq!(book.look_up(year), free.look_up(year));
+            assert_eq!(
+                book.look_up(Which::Plain, year),
+                free.look_up(Which::Plain, year)
+            );
         }
-        let found = book.look_up(1).unwrap();
+        let found = book.look_up(Which::Plain, 1).unwrap();
         assert_eq!((found.month, found.age), (5, 2));
         let (mut page, mut expected) = ([7; 2_000], [7; 2_000]);
-        assert_eq!(book.page(&mut page), Ok(()));
-        assert_eq!(free.page(&mut expected), Ok(()));
+        assert_eq!(book.page(Which::Plain, &mut page), Ok(()));
+        assert_eq!(free.page(Which::Plain, &mut expected), Ok(()));
         assert_eq!(page, expected);
         assert_eq!(page[..5], [0x48, 0, 5, 0, 2]);
     }
@@ -222,7 +226,7 @@ fn an_accepted_post_opens_the_book_if_its_sheet_is_young_enough() {
     }
     for (month, age) in [(17, 2), (19, 0)] {
         assert_eq!(book.post(&of_month(month)), Ok(month));
-        let found = book.look_up(1).unwrap();
+        let found = book.look_up(Which::Plain, 1).unwrap();
         assert_eq!((found.month, found.age), (month, age));
     }
     // What was posted while the book was closed stands as ever.

@@ -6,14 +6,12 @@ mod model;
 
 use common::{flat, zero, Numbers};
 use model::Model;
-use reference::book::{Book, LARGEST_AGE_LIMIT};
-use reference::curve::Curve;
-use reference::desk::{make, Call};
+use reference::counts::answered_posts;
+use reference::curve::{Curve, Which};
 use reference::dropped::{dropped_sheet, typed_dropped_sheet, DroppedPosts, MERGED_GAPS};
 use reference::enclosure::{Enclosure, U};
 use reference::extrapolation::last_liquid_forward;
 use reference::forwards::YearForwards;
-use reference::journal::calls;
 use reference::questions::journal;
 use reference::refusal::Refusal;
 use reference::sheet::Sheet;
@@ -45,7 +43,7 @@ fn all_at(rate: i16, volumes: [u32; 5]) -> Numbers {
 fn answer(numbers: &Numbers) -> Result<Curve, (u8, u8)> {
     let ground = |refusal: Refusal| (refusal.number, refusal.place);
     let sheet = Sheet::read(&numbers.bytes()).map_err(ground)?;
-    Curve::of(&sheet).map_err(ground)
+    Curve::plain(&sheet).map_err(ground)
 }
 
 fn refused(numbers: &Numbers, number: u8, place: u8) {
@@ -114,7 +112,7 @@ fn all_used(random: &mut Random) -> Sheet {
 
 /// Whether both say the same, in all 150 years where they accept.
 fn assert_same(sheet: &Sheet, model: Result<Model, model::Ground>) -> bool {
-    let found = Curve::of(sheet).map_err(|refusal| (refusal.number, refusal.place));
+    let found = Curve::plain(sheet).map_err(|refusal| (refusal.number, refusal.place));
     let found = found.map(|curve| {
         let factors = (1..=150).map(|year| curve.factor(year));
         let (lows, highs) = factors.map(|factor| (factor.low, factor.high)).unzip();
@@ -200,7 +198,7 @@ fn the_rate_of_a_dropped_quote_changes_nothing() {
     let mut counts = [0; 2];
     for _ in 0..200 {
         let sheet = dropped_sheet(&mut random, 0);
-        let found = Curve::of(&sheet);
+        let found = Curve::plain(&sheet);
         counts[usize::from(found.is_ok())] += 1;
         for (_, quote, volume) in DROPPABLE {
             if sheet.volumes[volume] > 0 {
@@ -209,7 +207,7 @@ fn the_rate_of_a_dropped_quote_changes_nothing() {
             for rate in [-2_000, -1, 0, 12_000, random.between(-2_000, 12_000) as i16] {
                 let mut other = sheet.clone();
                 other.rates[quote] = rate;
-                assert_eq!(Curve::of(&other), found, "{other:?}");
+                assert_eq!(Curve::plain(&other), found, "{other:?}");
             }
         }
     }
@@ -330,7 +328,7 @@ fn grounds_7_and_9_end_with_the_last_used_quote() {
                 number: 7 | 9,
                 place: 21..,
             },
-        ) = Curve::of(&sheet)
+        ) = Curve::plain(&sheet)
         else {
             continue;
         };
@@ -340,8 +338,8 @@ fn grounds_7_and_9_end_with_the_last_used_quote() {
         let end = *used.iter().find(|&&m| m >= refusal.place).unwrap();
         assert!(refusal.number == 7 || refusal.place == end, "{sheet:?}");
         // Later quotes do not matter; without this one, nothing is wrong with the quotes.
-        assert_eq!(Curve::of(&ended_before(&sheet, end + 1)), Err(refusal));
-        if let Err(other) = Curve::of(&ended_before(&sheet, end)) {
+        assert_eq!(Curve::plain(&ended_before(&sheet, end + 1)), Err(refusal));
+        if let Err(other) = Curve::plain(&ended_before(&sheet, end)) {
             assert!([8, 10].contains(&other.number), "{other:?}, {sheet:?}");
         }
     }
@@ -369,7 +367,7 @@ fn sheets_of(bits: usize) -> [Numbers; 2] {
 
 fn assert_holds(numbers: &Numbers, order: usize) {
     let sheet = Sheet::read(&numbers.bytes()).unwrap();
-    let years = check(&sheet, &accepted(numbers), order).unwrap();
+    let years = check(&sheet, Which::Plain, &accepted(numbers), order).unwrap();
     assert_eq!(years.len(), 150);
     for year in years {
         assert!(year.holds(), "order {order}, {year:?}, {sheet:?}");
@@ -412,7 +410,7 @@ fn bands_of_other_gaps_are_found_outside() {
                 // A volume of one in a million is hardly a weight, but the quote is used.
                 let mut used = sheet.clone();
                 used.volumes[volume] = 1;
-                let years = check(&sheet, &Curve::of(&used).unwrap(), 0).unwrap();
+                let years = check(&sheet, Which::Plain, &Curve::plain(&used).unwrap(), 0).unwrap();
                 assert!(years[..20].iter().all(|year| year.inside));
                 assert!(years[20..].iter().all(|year| !year.inside), "{used:?}");
                 sheet.rates[quote] -= 500;
@@ -477,24 +475,12 @@ fn the_highest_trial_that_is_refused() {
 
 // Seeded streams
 
-/// The posts among the records, with whether each is accepted after what comes before it.
-fn posts(records: &[u8]) -> Vec<(Vec<u8>, bool)> {
-    let mut book = Book::new(LARGEST_AGE_LIMIT);
-    let mut posts = Vec::new();
-    for call in calls(records) {
-        let accepted = make(&mut book, &call).is_ok();
-        if let Call::Post(sheet) = call {
-            posts.push((sheet, accepted));
-        }
-    }
-    posts
-}
-
 #[test]
 fn seeded_streams_accept_every_pattern_and_every_merged_gap() {
     let mut patterns = [0; 32];
     let mut dropped = DroppedPosts::default();
-    for (sheet, accepted) in (0..5).flat_map(|seed| posts(&stream(seed, 1_000))) {
+    for (sheet, number) in (0..5).flat_map(|seed| answered_posts(&stream(seed, 1_000))) {
+        let accepted = number == 0;
         dropped.count(&sheet, accepted);
         if let (Ok(sheet), true) = (Sheet::read(&sheet), accepted) {
             let bit = |i: usize| usize::from(sheet.volumes[i] > 0) << i;
@@ -519,13 +505,13 @@ fn seeded_sheets_have_rates_that_could_not_be_used() {
     let (mut extreme, mut beyond_64_bits, mut would_be_refused) = (0, 0, 0);
     for _ in 0..1_500 {
         let sheet = dropped_sheet(&mut random, 0);
-        let Some(curve) = worked(&sheet) else {
+        let Some(curves) = worked(&sheet) else {
             continue;
         };
         let dropped = |&(_, _, volume): &(u8, usize, usize)| sheet.volumes[volume] == 0;
         let mut dropped = DROPPABLE.into_iter().filter(dropped);
         extreme += usize::from(dropped.any(|(_, i, _)| [-2_000, 12_000].contains(&sheet.rates[i])));
-        let start = curve.factor(20).high;
+        let start = curves.plain.factor(20).high;
         let only_50 = traded(&sheet.volumes) == [50];
         beyond_64_bits += usize::from(only_50 && largest_product(start, 30) > TWO_TO_64);
         would_be_refused += usize::from(Model::of_all_quotes(&sheet).is_err());
@@ -554,7 +540,9 @@ fn seeded_journals_leave_curves_with_dropped_quotes() {
     let mut random = Random::new(507);
     let mut dropped = DroppedPosts::default();
     for _ in 0..300 {
-        dropped.count_journal(&journal(&mut random));
+        for (sheet, number) in answered_posts(&journal(&mut random)) {
+            dropped.count(&sheet, number == 0);
+        }
     }
     dropped.check().unwrap();
 }

@@ -3,14 +3,14 @@
 mod common;
 
 use common::{flat, zero, Numbers};
-use reference::curve::Curve;
+use reference::curve::{Curve, Which};
 use reference::sheet::Sheet;
 use reference::true_curve::check;
 
 fn assert_enclosed(numbers: &Numbers, order: usize) {
     let sheet = Sheet::read(&numbers.bytes()).unwrap();
-    let curve = Curve::of(&sheet).unwrap();
-    let checks = check(&sheet, &curve, order).unwrap();
+    let curve = Curve::plain(&sheet).unwrap();
+    let checks = check(&sheet, Which::Plain, &curve, order).unwrap();
     assert_eq!(checks.len(), 150);
     for check in checks {
         assert!(check.inside, "order {order}, {check:?}");
@@ -78,6 +78,6 @@ fn yearly_factor_exactly_at_par() {
 fn a_wrong_curve_is_found_outside() {
     let sheet = Sheet::read(&flat(3_000).bytes()).unwrap();
     let other = Sheet::read(&flat(3_001).bytes()).unwrap();
-    let checks = check(&sheet, &Curve::of(&other).unwrap(), 0).unwrap();
+    let checks = check(&sheet, Which::Plain, &Curve::plain(&other).unwrap(), 0).unwrap();
     assert!(checks.iter().all(|check| !check.inside));
 }

@@ -4,7 +4,7 @@ mod common;
 
 use common::{flat, zero, Numbers};
 use reference::book::{Book, LARGEST_AGE_LIMIT, PAGE_LENGTH};
-use reference::curve::Curve;
+use reference::curve::{Curve, Which};
 use reference::desk::run_desk;
 use reference::enclosure::{Enclosure, U};
 use reference::extrapolation::{last_liquid_forward, log_ultimate};
@@ -16,7 +16,7 @@ use reference::true_curve::{true_weights, Fraction};
 use reference::weights::{table, whole_part};
 
 fn curve(numbers: &Numbers) -> Result<Curve, Refusal> {
-    Curve::of(&Sheet::read(&numbers.bytes())?)
+    Curve::plain(&Sheet::read(&numbers.bytes())?)
 }
 
 fn factor(numbers: &Numbers, year: usize) -> (i128, i128) {
@@ -242,8 +242,8 @@ fn ground_1_any_other_length() {
     let bytes = zero().bytes();
     assert_eq!(bytes.len(), 109);
     assert_eq!(sheet_refusal(&bytes), None);
-    for length in (0..65_536).filter(|length| ![109, 112].contains(length)) {
-        let mut other = zero().with_x(20_000).bytes();
+    for length in (0..65_536).filter(|length| ![109, 112, 115].contains(length)) {
+        let mut other = zero().with_x(20_000).adjusted(500).bytes();
         other.resize(length, 0x06);
         assert_eq!(sheet_refusal(&other), Some((1, 0)), "{length} bytes");
     }
@@ -386,7 +386,7 @@ fn posts_are_dated() {
     assert_eq!(book.post(&dated(4)), Err(refusal(6, 0)));
     assert_eq!(book.post(&dated(5)), Ok(5));
     assert_eq!(book.turn(9), Ok(9));
-    let found = book.look_up(1).unwrap();
+    let found = book.look_up(Which::Plain, 1).unwrap();
     assert_eq!((found.month, found.age), (5, 4));
 }
 
@@ -441,10 +441,13 @@ fn grounds_5_and_6_come_before_the_curve() {
 fn a_new_post_replaces_the_curve() {
     let mut book = Book::new(LARGEST_AGE_LIMIT);
     book.post(&zero().bytes()).unwrap();
-    assert_eq!(book.look_up(1).unwrap().factor, Enclosure::new(U, U));
+    assert_eq!(
+        book.look_up(Which::Plain, 1).unwrap().factor,
+        Enclosure::new(U, U)
+    );
     book.post(&flat(3_000).bytes()).unwrap();
     assert_eq!(
-        book.look_up(1).unwrap().factor,
+        book.look_up(Which::Plain, 1).unwrap().factor,
         Enclosure::new(970_873_786, 970_873_787)
     );
 }
@@ -453,21 +456,21 @@ fn a_new_post_replaces_the_curve() {
 fn look_ups_try_the_year_first() {
     let mut book = Book::new(LARGEST_AGE_LIMIT);
     for year in [0, 151, 255, u32::MAX] {
-        assert_eq!(book.look_up(year), Err(refusal(13, 0)));
+        assert_eq!(book.look_up(Which::Plain, year), Err(refusal(13, 0)));
     }
-    assert_eq!(book.look_up(1), Err(refusal(14, 0)));
-    assert_eq!(book.look_up(150), Err(refusal(14, 0)));
+    assert_eq!(book.look_up(Which::Plain, 1), Err(refusal(14, 0)));
+    assert_eq!(book.look_up(Which::Plain, 150), Err(refusal(14, 0)));
     book.post(&zero().bytes()).unwrap();
-    assert_eq!(book.look_up(0), Err(refusal(13, 0)));
-    assert_eq!(book.look_up(151), Err(refusal(13, 0)));
-    assert!(book.look_up(150).is_ok());
+    assert_eq!(book.look_up(Which::Plain, 0), Err(refusal(13, 0)));
+    assert_eq!(book.look_up(Which::Plain, 151), Err(refusal(13, 0)));
+    assert!(book.look_up(Which::Plain, 150).is_ok());
 }
 
 #[test]
 fn page_bytes() {
     let mut book = Book::new(LARGEST_AGE_LIMIT);
     let mut short = [9; PAGE_LENGTH - 1];
-    assert_eq!(book.page(&mut short), Err(refusal(14, 0)));
+    assert_eq!(book.page(Which::Plain, &mut short), Err(refusal(14, 0)));
     book.turn(0x0203).unwrap();
     book.post(
         &Numbers {
@@ -477,15 +480,15 @@ fn page_bytes() {
         .bytes(),
     )
     .unwrap();
-    assert_eq!(book.page(&mut short), Err(refusal(15, 0)));
+    assert_eq!(book.page(Which::Plain, &mut short), Err(refusal(15, 0)));
     assert_eq!(short, [9; PAGE_LENGTH - 1]);
     let mut long = [9; PAGE_LENGTH + 3];
-    book.page(&mut long).unwrap();
+    book.page(Which::Plain, &mut long).unwrap();
     assert_eq!(long[..5], [0x48, 0x01, 0x02, 0x01, 0x01]);
     assert_eq!(long[PAGE_LENGTH..], [9; 3]);
     for year in 1..=150u8 {
         let record = &long[5 + 10 * (usize::from(year) - 1)..][..10];
-        let factor = book.look_up(u32::from(year)).unwrap().factor;
+        let factor = book.look_up(Which::Plain, u32::from(year)).unwrap().factor;
         assert_eq!(record[..2], [0x59, year]);
         assert_eq!(
             record[2..6],
@@ -528,13 +531,15 @@ fn desk_ends_at_a_cut_body() {
 
 #[test]
 fn a_sheet_of_any_length_is_read_to_its_end() {
-    let sheet = zero().with_x(20_000).bytes();
-    for length in [0, 1, 108, 109, 110, 111, 112, 113, 365, 368, 65_535] {
+    let sheet = zero().with_x(20_000).adjusted(500).bytes();
+    for length in [
+        0, 1, 108, 109, 110, 111, 112, 113, 114, 115, 116, 365, 368, 371, 65_535,
+    ] {
         let mut posted = sheet.clone();
         posted.resize(length, 0);
         let post = post_record(&posted);
         let answer = match length {
-            109 | 112 => "P 0",
+            109 | 112 | 115 => "P 0",
             _ => "R 1 0",
         };
         let input = [&post[..], &[0x4D, 0x00, 0x05, 0x51]].concat();

@@ -3,6 +3,7 @@
 use std::collections::BTreeSet;
 
 use reference::book::{Book, LARGEST_AGE_LIMIT};
+use reference::curve::Which;
 use reference::desk;
 use reference::every_ground::{desk_records, records, AGE_LIMIT};
 use reference::journal::{self, answer_on, book_after, look_up, turn, NO_RECORD};
@@ -22,7 +23,9 @@ fn every_ground_is_met() {
         met.insert(number);
     }
     assert_eq!(met, (0..=14).chain([16, 17]).collect());
-    assert!(book_after(AGE_LIMIT, &journal).look_up(150).is_ok());
+    assert!(book_after(AGE_LIMIT, &journal)
+        .look_up(Which::Plain, 150)
+        .is_ok());
 }
 
 #[test]

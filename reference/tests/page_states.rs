@@ -8,7 +8,7 @@ use std::cell::RefCell;
 
 use common::{flat, november, zero, Numbers};
 use reference::book::{Book, LARGEST_AGE_LIMIT};
-use reference::curve::Curve;
+use reference::curve::{Curve, Which};
 use reference::enclosure::Enclosure;
 use reference::page::Page;
 use reference::refusal::Refusal;
@@ -30,7 +30,7 @@ impl Case {
     /// The book of an accepted sheet that is `age` months old.
     fn of(bytes: &[u8], age: u16) -> Self {
         let sheet = Sheet::read(bytes).expect("a sheet");
-        let curve = Curve::of(&sheet).expect("an accepted sheet");
+        let curve = Curve::plain(&sheet).expect("an accepted sheet");
         let month = sheet.month;
         let mut book = Book::new(LARGEST_AGE_LIMIT);
         assert_eq!(book.turn(u32::from(month)), Ok(month));
@@ -140,7 +140,7 @@ fn trials(cases: &[Case]) -> impl Iterator<Item = (&Case, Vec<u8>)> {
 fn states(book: &Book, lent: &[u8]) -> Vec<(usize, Vec<u8>)> {
     let mut states = Vec::new();
     let mut buffer = lent.to_vec();
-    let page = book.shown_page().expect("a shown curve");
+    let page = book.shown_page(Which::Plain).expect("a shown curve");
     let written = page.write(&mut buffer, |t, state| states.push((t, state.to_vec())));
     assert_eq!(written, Ok(()));
     states
@@ -149,14 +149,14 @@ fn states(book: &Book, lent: &[u8]) -> Vec<(usize, Vec<u8>)> {
 /// The buffer once years 1 to t alone are written.
 fn written_to(t: usize, book: &Book, lent: &[u8]) -> Vec<u8> {
     let mut buffer = lent.to_vec();
-    let page = book.shown_page().expect("a shown curve");
+    let page = book.shown_page(Which::Plain).expect("a shown curve");
     assert_eq!(page.write_to(t, &mut buffer), Ok(()));
     buffer
 }
 
 fn paged(book: &Book, lent: &[u8]) -> Vec<u8> {
     let mut buffer = lent.to_vec();
-    assert_eq!(book.page(&mut buffer), Ok(()));
+    assert_eq!(book.page(Which::Plain, &mut buffer), Ok(()));
     buffer
 }
 
@@ -247,7 +247,7 @@ fn each_record_read_back_is_the_look_ups() {
             let record = &state[5 + 10 * (t - 1)..5 + 10 * t];
             assert_eq!((record[0], usize::from(record[1])), (0x59, t));
             let (low, high) = (number(&record[2..6]), number(&record[6..]));
-            let Ok(answer) = book.look_up(t as u32) else {
+            let Ok(answer) = book.look_up(Which::Plain, t as u32) else {
                 without_rates += 1;
                 continue;
             };
@@ -343,7 +343,10 @@ fn a_book_refuses_every_short_buffer() {
         for length in 0..=1_504 {
             let lent = none_of(&case.page, length);
             let mut buffer = lent.clone();
-            assert_eq!(case.book.page(&mut buffer), Err(Refusal::plain(15)));
+            assert_eq!(
+                case.book.page(Which::Plain, &mut buffer),
+                Err(Refusal::plain(15))
+            );
             assert!(buffer == lent, "{length} bytes");
         }
     }
@@ -351,7 +354,11 @@ fn a_book_refuses_every_short_buffer() {
 
 #[test]
 fn no_page_is_shown_of_no_curve_or_of_an_old_one() {
-    let number = |book: &Book| book.shown_page().err().map(|refusal| refusal.number);
+    let number = |book: &Book| {
+        book.shown_page(Which::Plain)
+            .err()
+            .map(|refusal| refusal.number)
+    };
     let mut book = Book::new(3);
     assert_eq!(number(&book), Some(14));
     assert_eq!(book.post(&zero().bytes()), Ok(0));

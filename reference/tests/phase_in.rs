@@ -5,7 +5,7 @@ mod common;
 use common::{flat, november, zero, Numbers};
 use reference::bigint::BigInt;
 use reference::convergence::{CONVERGENCE_UNIT, TEN_PERCENT};
-use reference::curve::Curve;
+use reference::curve::{Curve, Which};
 use reference::enclosure::{Enclosure, U};
 use reference::refusal::Refusal;
 use reference::series::growth;
@@ -22,7 +22,7 @@ fn read(numbers: &Numbers) -> Sheet {
 }
 
 fn curve(numbers: &Numbers) -> Curve {
-    Curve::of(&read(numbers)).expect("an accepted sheet")
+    Curve::plain(&read(numbers)).expect("an accepted sheet")
 }
 
 fn convergence(rate_20: i16, x: u16) -> i128 {
@@ -47,7 +47,8 @@ fn the_record_is_the_26th_and_tells_x() {
 
 #[test]
 fn another_kind_in_its_turn_is_ground_2() {
-    for kind in (0..=255).filter(|&kind| kind != 0x06) {
+    // Hex 07 is the adjustment's, which may stand there too.
+    for kind in (0..=255).filter(|kind| ![0x06, 0x07].contains(kind)) {
         // X is out of range too: ground 2 comes first.
         for x in [9_999, 20_000] {
             let mut bytes = zero().with_x(x).bytes();
@@ -56,7 +57,7 @@ fn another_kind_in_its_turn_is_ground_2() {
         }
     }
     let mut bytes = zero().with_x(20_000).bytes();
-    bytes[109] = 0x07;
+    bytes[109] = 0x08;
     bytes[104] = 0x06;
     assert_eq!(refusal(&bytes), Some((2, 25)));
 }
@@ -209,7 +210,7 @@ fn grounds_8_and_10_are_tried_on_the_worked_weights() {
     let limited = |limit: i128| {
         let limit = u32::try_from(limit).unwrap();
         let numbers = Numbers { limit, ..zero() }.with_x(20_000);
-        Curve::of(&read(&numbers)).err()
+        Curve::plain(&read(&numbers)).err()
     };
     assert_eq!(limited(limit), None);
     assert_eq!(limited(limit - 1), Some(Refusal::at(10, 150)));
@@ -219,8 +220,8 @@ fn grounds_8_and_10_are_tried_on_the_worked_weights() {
         ..zero()
     };
     falling.rates[12..].copy_from_slice(&[-2_000, -1_000, -500, -300, -200]);
-    assert_eq!(Curve::of(&read(&falling)), Err(Refusal::at(8, 27)));
-    let refused = Curve::of(&read(&falling.with_x(20_000))).unwrap_err();
+    assert_eq!(Curve::plain(&read(&falling)), Err(Refusal::at(8, 27)));
+    let refused = Curve::plain(&read(&falling.with_x(20_000))).unwrap_err();
     assert!(refused.number == 8 && refused.place > 27, "{refused}");
 }
 
@@ -230,11 +231,11 @@ fn bands_of_random_sheets_hold_the_true_curve() {
     let (mut worked_weights, mut at_the_table) = (0, 0);
     while worked_weights < 40 {
         let sheet = sheet(&mut random, 0);
-        let Some(curve) = worked(&sheet).filter(|_| sheet.phase_in.is_some()) else {
+        let Some(curves) = worked(&sheet).filter(|_| sheet.phase_in.is_some()) else {
             continue;
         };
         for order in 0..=2 {
-            for year in check(&sheet, &curve, order).unwrap() {
+            for year in check(&sheet, Which::Plain, &curves.plain, order).unwrap() {
                 assert!(year.holds(), "order {order}, {year:?}, {sheet:?}");
             }
         }
@@ -251,7 +252,7 @@ fn bands_of_random_sheets_hold_the_true_curve() {
 fn a_curve_of_another_x_is_found_outside() {
     let sheet = read(&november().with_x(20_000));
     for other in [november(), november().with_x(19_900)] {
-        let checks = check(&sheet, &curve(&other), 0).unwrap();
+        let checks = check(&sheet, Which::Plain, &curve(&other), 0).unwrap();
         let (liquid, extrapolated) = checks.split_at(20);
         assert!(liquid.iter().all(|check| check.inside));
         assert!(extrapolated.iter().all(|check| !check.inside));

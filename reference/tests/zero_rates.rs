@@ -6,7 +6,7 @@ mod common;
 use common::{flat, november, zero, Numbers};
 use reference::bigint::BigInt;
 use reference::book::{Book, LARGEST_AGE_LIMIT, PAGE_LENGTH};
-use reference::curve::Curve;
+use reference::curve::{Curve, Which};
 use reference::desk::{make, run_desk, Call};
 use reference::enclosure::{Enclosure, U};
 use reference::journal::{answer_on, book_after, calls, look_up, post, turn};
@@ -71,7 +71,7 @@ fn assert_smallest(low: i128, year: usize) {
 }
 
 fn curve(numbers: &Numbers) -> Curve {
-    Curve::of(&Sheet::read(&numbers.bytes()).unwrap()).unwrap()
+    Curve::plain(&Sheet::read(&numbers.bytes()).unwrap()).unwrap()
 }
 
 fn rates(numbers: &Numbers, year: usize) -> Option<(i32, i32)> {
@@ -370,7 +370,7 @@ fn a_look_up_gives_factor_rates_and_dating() {
         let mut book = book_of(LARGEST_AGE_LIMIT, &numbers);
         assert_eq!(book.turn(7), Ok(7));
         for year in years() {
-            let found = book.look_up(year as u32).unwrap();
+            let found = book.look_up(Which::Plain, year as u32).unwrap();
             assert_eq!(found.factor, curve.factor(year));
             assert_eq!(Some(found.rates), ZeroRates::of(curve.factor(year), year));
             assert_eq!((found.month, found.age), (0, 7));
@@ -383,7 +383,7 @@ fn the_years_that_have_no_high_rate() {
     let lacking = |numbers: &Numbers| {
         let book = book_of(0, numbers);
         years()
-            .filter(|&year| book.look_up(year as u32) == Err(Refusal::plain(17)))
+            .filter(|&year| book.look_up(Which::Plain, year as u32) == Err(Refusal::plain(17)))
             .collect::<Vec<_>>()
     };
     // U / 111,111 in year 10, then about 0.9 of the year before, against halves.
@@ -448,7 +448,10 @@ fn the_desks_line_stays() {
 
 #[test]
 fn look_ups_try_13_14_16_and_17() {
-    let refused = |book: &Book, year| book.look_up(year).map_err(|refusal| refusal.code());
+    let refused = |book: &Book, year| {
+        book.look_up(Which::Plain, year)
+            .map_err(|refusal| refusal.code())
+    };
     let fresh = Book::new(0);
     assert_eq!(
         (refused(&fresh, 0), refused(&fresh, 10)),
@@ -462,7 +465,7 @@ fn look_ups_try_13_14_16_and_17() {
             (Err(17), Err(17))
         );
         assert_eq!((refused(&book, 0), refused(&book, 151)), (Err(13), Err(13)));
-        assert!(book.look_up(9).is_ok());
+        assert!(book.look_up(Which::Plain, 9).is_ok());
     }
     assert_eq!(book.turn(4), Ok(4));
     for year in 1..=150 {
@@ -482,7 +485,7 @@ fn a_refused_look_up_leaves_the_book() {
     assert_eq!(book, before);
     // A sheet with rates in every year shows them again.
     assert_eq!(book.post(&flat(3_000).bytes()), Ok(0));
-    assert!(book.look_up(10).is_ok());
+    assert!(book.look_up(Which::Plain, 10).is_ok());
 }
 
 // What 17 leaves alone
@@ -493,7 +496,7 @@ fn a_page_still_has_the_pair() {
         let curve = curve(&numbers);
         let mut book = book_of(1, &numbers);
         let mut page = [7; 2_000];
-        assert_eq!(book.page(&mut page), Ok(()));
+        assert_eq!(book.page(Which::Plain, &mut page), Ok(()));
         for year in years() {
             let record = &page[5 + 10 * (year - 1)..][..10];
             let pair = |at: usize| u32::from_be_bytes(record[at..at + 4].try_into().unwrap());
@@ -503,9 +506,15 @@ fn a_page_still_has_the_pair() {
             assert!(factor.width() <= i128::from(numbers.limit));
         }
         assert_eq!(page[PAGE_LENGTH..], [7; 2_000 - PAGE_LENGTH]);
-        assert_eq!(book.page(&mut page[..1_504]), Err(Refusal::plain(15)));
+        assert_eq!(
+            book.page(Which::Plain, &mut page[..1_504]),
+            Err(Refusal::plain(15))
+        );
         assert_eq!(book.turn(2), Ok(2));
-        assert_eq!(book.page(&mut page[..1_504]), Err(Refusal::plain(16)));
+        assert_eq!(
+            book.page(Which::Plain, &mut page[..1_504]),
+            Err(Refusal::plain(16))
+        );
     }
 }
 
@@ -528,11 +537,11 @@ fn a_post_is_not_turned_down_for_its_rates() {
 
 /// Asserts that bands and rates hold the true curve; the years that have rates.
 fn assert_holds(sheet: &Sheet, orders: std::ops::RangeInclusive<usize>) -> usize {
-    let curve = worked(sheet).expect("an accepted sheet");
+    let curve = worked(sheet).expect("an accepted sheet").plain;
     let with_rates = |year: &usize| ZeroRates::of(curve.factor(*year), *year).is_some();
     let with_rates: Vec<_> = years().filter(with_rates).collect();
     for order in orders {
-        let checks = check(sheet, &curve, order).unwrap();
+        let checks = check(sheet, Which::Plain, &curve, order).unwrap();
         assert!(checks.iter().all(|check| check.holds()), "{sheet:?}");
         let checked = checks.iter().filter(|check| check.rates.is_some());
         assert!(checked.map(|check| check.year).eq(with_rates.clone()));
@@ -579,7 +588,7 @@ fn the_true_rate_of_seeded_sheets_lies_between_the_rates() {
 fn a_curve_of_other_rates_is_found_outside() {
     let sheet = read(&flat(3_000));
     for other in [flat(2_990), flat(3_010)] {
-        let checks = check(&sheet, &curve(&other), 0).unwrap();
+        let checks = check(&sheet, Which::Plain, &curve(&other), 0).unwrap();
         assert!(checks.iter().all(|check| !check.holds()));
         assert!(!checks
             .iter()
@@ -627,11 +636,11 @@ fn most_steep_sheets_are_accepted_and_many_lack_rates() {
     let (mut accepted, mut lacking) = (0, 0);
     for _ in 0..300 {
         let sheet = steep_sheet(&mut random, 0);
-        let Some(curve) = worked(&sheet) else {
+        let Some(curves) = worked(&sheet) else {
             continue;
         };
         accepted += 1;
-        let lacks = |&year: &usize| ZeroRates::of(curve.factor(year), year).is_none();
+        let lacks = |&year: &usize| ZeroRates::of(curves.plain.factor(year), year).is_none();
         lacking += usize::from(years().any(|year| lacks(&year)));
     }
     assert!(accepted > 200 && lacking > 100, "{accepted}, {lacking}");

@@ -1,12 +1,13 @@
 //! Times posts and a page through the C interface against the second implementation, on
 //! the same journal, in turn, in one run on one machine: bench [POSTS]. Then the same posts
-//! with an X, whose weights are worked anew in each, and with two dropped quotes. Then pages of
-//! one post's curve.
+//! with an X, whose weights are worked anew in each, with two dropped quotes, and with an
+//! adjustment, whose second curve is paged. Then pages of one post's curve.
 
 use std::time::{Duration, Instant};
 
-use interface::page_after;
+use interface::{page_after, ADJUSTED, PLAIN};
 use reference::book::{LARGEST_AGE_LIMIT, PAGE_LENGTH};
+use reference::curve::Which;
 use reference::journal::book_after;
 use reference::streams::{accepted_posts, Measured};
 
@@ -22,26 +23,27 @@ fn main() {
         .nth(1)
         .and_then(|word| word.parse().ok())
         .unwrap_or(20_000);
-    for (sheets, measured) in [
-        ("without X", Measured::Plain),
-        ("with X", Measured::PhaseIn),
-        ("with two dropped quotes", Measured::TwoDropped),
+    for (sheets, measured, named) in [
+        ("without X", Measured::Plain, PLAIN),
+        ("with X", Measured::PhaseIn, PLAIN),
+        ("with two dropped quotes", Measured::TwoDropped, PLAIN),
+        ("with an adjustment", Measured::Adjusted, ADJUSTED),
     ] {
-        time_posts(sheets, posts, &accepted_posts(SEED, posts, measured));
+        time_posts(sheets, posts, named, &accepted_posts(SEED, posts, measured));
     }
     time_pages(&accepted_posts(SEED, 1, Measured::Plain));
 }
 
-fn time_posts(sheets: &str, posts: usize, journal: &[u8]) {
+fn time_posts(sheets: &str, posts: usize, named: u64, journal: &[u8]) {
     let (mut proved, mut plain) = (Duration::MAX, Duration::MAX);
     for _ in 0..RUNS {
         let (mut page, mut expected) = (vec![0; PAGE_LENGTH], vec![0; PAGE_LENGTH]);
         let start = Instant::now();
-        assert_eq!(page_after(LARGEST_AGE_LIMIT, journal, &mut page), 0);
+        assert_eq!(page_after(LARGEST_AGE_LIMIT, journal, named, &mut page), 0);
         proved = proved.min(start.elapsed());
         let start = Instant::now();
         let book = book_after(LARGEST_AGE_LIMIT, journal);
-        assert!(book.page(&mut expected).is_ok());
+        assert!(book.page(Which::named_by(named), &mut expected).is_ok());
         plain = plain.min(start.elapsed());
         assert_eq!(page, expected);
     }
@@ -64,10 +66,14 @@ fn time_pages(journal: &[u8]) {
     let (mut whole, mut refused, mut plain) = (Vec::new(), Vec::new(), Vec::new());
     let mut page = vec![0; PAGE_LENGTH];
     for _ in 0..PAGES {
-        whole.push(time(|| page_after(LARGEST_AGE_LIMIT, journal, &mut page)));
+        whole.push(time(|| {
+            page_after(LARGEST_AGE_LIMIT, journal, PLAIN, &mut page)
+        }));
         let short = &mut page[1..];
-        refused.push(time(|| page_after(LARGEST_AGE_LIMIT, journal, short)));
-        plain.push(time(|| book.page(&mut page)));
+        refused.push(time(|| {
+            page_after(LARGEST_AGE_LIMIT, journal, PLAIN, short)
+        }));
+        plain.push(time(|| book.page(Which::Plain, &mut page)));
     }
     let (whole, refused, plain) = (usual(whole), usual(refused), usual(plain));
     println!(

@@ -1,8 +1,10 @@
 //! Asks the proved library and the second implementation the same questions after seeded
-//! journals, each under several age limits, and compares answers and buffers. It prints how
-//! often each kind of question met each ground and what became of posts with dropped quotes, and
-//! fails where one never met 16, where one that asks for rates never met 17, or where no sheet
-//! was accepted with some gap that runs on over a dropped maturity.
+//! journals, each under several age limits and about both curves, which are named by numbers of
+//! every sort, and compares answers and buffers. It prints how often each kind of question met
+//! each ground and what became of posts with dropped quotes or adjustments, and fails where one
+//! never met 16, where one that asks for rates never met 17, where no adjusted curve was shown or
+//! missing, or where no sheet was accepted with some gap that runs on over a dropped maturity, or
+//! with some tail.
 //!
 //!     differential [SEED [POSTS]]
 
@@ -10,10 +12,11 @@ use std::collections::BTreeSet;
 use std::process::ExitCode;
 
 use interface::compare::{Case, Kind, Met, Question};
+use reference::counts::PostCounts;
+use reference::curve::Which;
 use reference::desk::Call;
-use reference::dropped::DroppedPosts;
 use reference::journal::calls;
-use reference::questions::{age_limits, call, journal, limits_around};
+use reference::questions::{age_limits, call, journal, kind, limits_around};
 use reference::streams::Random;
 
 /// Buffers for look-ups, whose reply has 28 bytes.
@@ -33,10 +36,10 @@ fn main() -> ExitCode {
         eprintln!("usage: differential [SEED [POSTS]]");
         return ExitCode::from(2);
     };
-    let (mut met, mut dropped) = (Met::default(), DroppedPosts::default());
-    let compared = compare(seed, posts, &mut met, &mut dropped);
-    println!("{met}\n{dropped}");
-    let checked = met.check(&Kind::ALL).and_then(|()| dropped.check());
+    let (mut met, mut counts) = (Met::default(), PostCounts::default());
+    let compared = compare(seed, posts, &mut met, &mut counts);
+    println!("{met}\n{counts}");
+    let checked = met.check(&Kind::ALL).and_then(|()| counts.check());
     match compared.and_then(|done| checked.map(|()| done)) {
         Ok((journals, posts)) => {
             println!("libraries agree after {journals} journals with {posts} posts");
@@ -68,7 +71,7 @@ fn compare(
     seed: u64,
     posts: u64,
     met: &mut Met,
-    dropped: &mut DroppedPosts,
+    counts: &mut PostCounts,
 ) -> Result<(u64, u64), String> {
     let (mut done, mut number) = (0, 0);
     while done < posts {
@@ -76,7 +79,7 @@ fn compare(
         let mut random = Random::new(seed.wrapping_mul(1_000_003).wrapping_add(number));
         let journal = journal(&mut random);
         ask(&mut random, &journal, met).map_err(|text| format!("journal {number}: {text}"))?;
-        dropped.count_journal(&journal);
+        counts.count_journal(&journal);
         let before = done;
         done += posts_in(&journal);
         number += 1;
@@ -107,40 +110,50 @@ fn ask(random: &mut Random, journal: &[u8], met: &mut Met) -> Result<(), String>
     Ok(())
 }
 
-/// Look-ups of four years, the first outside the curve and the last one early, where steep
-/// curves have no high rate; three pages and the answers to two records.
-fn questions(random: &mut Random) -> [Question; 9] {
+/// The same of each curve, and the answers to two records.
+fn questions(random: &mut Random) -> Vec<Question> {
+    let mut questions = Vec::new();
+    for which in Which::ALL {
+        questions.extend(questions_about(random, which));
+    }
+    for _ in 0..2 {
+        let call = call(random);
+        questions.push(Question::Answer { call });
+    }
+    questions
+}
+
+/// Look-ups of three years, the first one often outside the curve and the last one early, where
+/// steep curves have no high rate; and two pages.
+fn questions_about(random: &mut Random, which: Which) -> [Question; 5] {
     // 2^32 + 20 is outside as well, whatever its low bits are.
-    let outside = [0, 151, 255, 256, (1 << 32) + 20, u64::MAX][random.below(6) as usize];
+    let first = random.one_of(&[0, 151, 255, 256, (1 << 32) + 20, u64::MAX, 1, 20, 150]);
     [
-        look_up(random, outside),
-        look_up_of(random, 1, 150),
-        look_up_of(random, 1, 150),
-        look_up_of(random, 9, 16),
-        page(random),
-        page(random),
-        page(random),
-        Question::Answer { call: call(random) },
-        Question::Answer { call: call(random) },
+        look_up(random, which, first),
+        look_up_of(random, which, 1, 150),
+        look_up_of(random, which, 9, 16),
+        page(random, which),
+        page(random, which),
     ]
 }
 
 /// A look-up of a year from `first` to `last`.
-fn look_up_of(random: &mut Random, first: i64, last: i64) -> Question {
+fn look_up_of(random: &mut Random, which: Which, first: i64, last: i64) -> Question {
     let year = random.between(first, last) as u64;
-    look_up(random, year)
+    look_up(random, which, year)
 }
 
-fn look_up(random: &mut Random, year: u64) -> Question {
-    let length = any_of(random, &LOOK_UP_BUFFERS);
-    Question::LookUp { year, length }
+fn look_up(random: &mut Random, which: Which, year: u64) -> Question {
+    Question::LookUp {
+        named: kind(random, which),
+        year,
+        length: random.one_of(&LOOK_UP_BUFFERS),
+    }
 }
 
-fn page(random: &mut Random) -> Question {
-    let length = any_of(random, &PAGE_BUFFERS);
-    Question::Page { length }
-}
-
-fn any_of(random: &mut Random, lengths: &[usize]) -> usize {
-    lengths[random.below(lengths.len() as u64) as usize]
+fn page(random: &mut Random, which: Which) -> Question {
+    Question::Page {
+        named: kind(random, which),
+        length: random.one_of(&PAGE_BUFFERS),
+    }
 }

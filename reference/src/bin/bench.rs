@@ -1,8 +1,8 @@
 //! Times desk programs on a stream of posts, in turn, in one run on one machine, once it has
 //! seen that they print the same; then on the same posts with an X, whose weights are worked
-//! anew in each, and with two dropped quotes; then on look-ups after one post, those of each of
-//! three years apart, since the rates of a late year take more steps. The first desk's time is
-//! the denominator of the ratios.
+//! anew in each, with two dropped quotes, and with an adjustment, for which each works a second
+//! curve; then on look-ups after one post, those of each of three years apart, since the rates of
+//! a late year take more steps. The first desk's time is the denominator of the ratios.
 //!
 //!     bench POSTS NAME=DESK NAME=DESK..
 
@@ -87,6 +87,7 @@ fn bench(posts: usize, desks: &[Desk]) -> Result<(), String> {
     for (name, measured) in [
         ("with X", Measured::PhaseIn),
         ("with two dropped quotes", Measured::TwoDropped),
+        ("with an adjustment", Measured::Adjusted),
     ] {
         let with = run(&posts_of(name, posts, measured), desks)?;
         for ((desk, with), without) in desks.iter().zip(with).zip(&without) {

@@ -1,17 +1,20 @@
 //! Runs another desk program on seeded record streams and compares its lines, byte
-//! for byte, with this implementation's; fails where no look-up was turned down on 17, or
-//! where no sheet was accepted with some gap that runs on over a dropped maturity. Then checks
-//! on sampled sheets that the curve's bands hold the true factors of orders 0 to 3 and that
-//! the true curves' own rates lie between the rates.
+//! for byte, with this implementation's; fails where no look-up was turned down on 17, where no
+//! sheet was accepted with some gap that runs on over a dropped maturity, or where some tail of a
+//! sheet, or a refusal for the adjusted curve alone, was not met. Then checks on sampled sheets
+//! that the bands of the plain and the adjusted curve hold their true factors of orders 0 to 3 and
+//! that the true curves' own rates lie between the rates.
 //!
 //!     differential DESK [SEED [POSTS [SAMPLES]]]
 
 use std::io::Write;
 use std::process::{Command, ExitCode, Stdio};
 
-use reference::curve::{Curve, YEARS};
+use reference::adjusted::adjusted_sheet;
+use reference::counts::PostCounts;
+use reference::curve::{Curve, Curves, Which, YEARS};
 use reference::desk::{run_desk, Call};
-use reference::dropped::{dropped_sheet, DroppedPosts};
+use reference::dropped::dropped_sheet;
 use reference::journal::calls;
 use reference::rates::ZeroRates;
 use reference::sheet::Sheet;
@@ -22,9 +25,9 @@ use reference::true_curve::check;
 const RECORDS: usize = 1_000;
 const ORDERS: usize = 4;
 
-/// Of so many samples one is a steep sheet, in which some years have no high rate, and two
-/// have dropped quotes.
-const ROUND: u64 = 5;
+/// Of so many samples one is a steep sheet, in which some years have no high rate, two have
+/// dropped quotes and three an adjustment.
+const ROUND: u64 = 8;
 
 /// What was compared.
 #[derive(Default)]
@@ -32,16 +35,17 @@ struct Compared {
     posts: u64,
     /// Look-ups of years that have no high rate.
     without_rates: u64,
-    dropped: DroppedPosts,
+    counts: PostCounts,
 }
 
 /// What was checked against the true curves of all orders.
 #[derive(Default)]
 struct Checked {
-    curves: u64,
+    sheets: u64,
+    adjusted: u64,
     years_with_rates: u64,
     years_without: u64,
-    dropped: DroppedPosts,
+    counts: PostCounts,
 }
 
 fn main() -> ExitCode {
@@ -60,15 +64,17 @@ fn main() -> ExitCode {
     match compare_desks(&desk, seed, posts).and_then(|done| {
         let (posts, without_rates) = (done.posts, done.without_rates);
         eprintln!("{posts} posts and {without_rates} refusals on 17 compared, no difference");
-        println!("{}", done.dropped);
+        println!("{}", done.counts);
         check_truth(seed, samples)
     }) {
         Ok(checked) => {
             println!(
-                "desks agree; {} curves, {} with dropped quotes, hold their true factors of \
-                 orders 0 to 3, and {} of their years the true rates, {} have none",
-                checked.curves,
-                checked.dropped.all.accepted,
+                "desks agree; the plain curves of {} sheets, {} with dropped quotes, and {} \
+                 adjusted ones hold their true factors of orders 0 to 3, and {} of their years the \
+                 true rates, {} have none",
+                checked.sheets,
+                checked.counts.dropped.all.accepted,
+                checked.adjusted,
                 checked.years_with_rates,
                 checked.years_without
             );
@@ -103,7 +109,7 @@ fn compare_desks(desk: &str, seed: u64, posts: u64) -> Result<Compared, String> 
         return Err("no look-up was turned down on 17".to_string());
     }
     if posts > 0 {
-        done.dropped.check()?;
+        done.counts.check()?;
     }
     Ok(done)
 }
@@ -115,10 +121,19 @@ impl Compared {
         for (call, line) in calls(input).zip(lines.lines()) {
             if let Call::Post(sheet) = call {
                 self.posts += 1;
-                self.dropped.count(&sheet, line.starts_with('P'));
+                self.counts.count(&sheet, refused_on(line));
             }
             self.without_rates += u64::from(line == "R 17 0");
         }
+    }
+}
+
+/// The number of a line's refusal, or 0.
+fn refused_on(line: &str) -> u8 {
+    let mut words = line.split(' ');
+    match (words.next(), words.next()) {
+        (Some("R"), Some(number)) => number.parse().expect("a ground's number"),
+        _ => 0,
     }
 }
 
@@ -159,35 +174,53 @@ fn difference(seed: u64, found: &[u8], expected: &[u8]) -> String {
 fn check_truth(seed: u64, samples: u64) -> Result<Checked, String> {
     let mut random = Random::new(seed);
     let mut checked = Checked::default();
-    while checked.curves < samples {
-        let sheet = match checked.curves % ROUND {
+    while checked.sheets < samples {
+        let sheet = match checked.sheets % ROUND {
             0 => steep_sheet(&mut random, 0),
             1 | 2 => dropped_sheet(&mut random, 0),
+            3..=5 => adjusted_sheet(&mut random, 0),
             _ => sheet(&mut random, 0),
         };
-        if let Some(curve) = worked(&sheet) {
-            check_curve(&sheet, &curve, &mut checked)?;
+        if let Some(curves) = worked(&sheet) {
+            check_sheet(&sheet, &curves, &mut checked)?;
         }
     }
     Ok(checked)
 }
 
-fn check_curve(sheet: &Sheet, curve: &Curve, checked: &mut Checked) -> Result<(), String> {
+fn check_sheet(sheet: &Sheet, curves: &Curves, checked: &mut Checked) -> Result<(), String> {
+    for which in Which::ALL {
+        if let Some(curve) = curves.get(which) {
+            check_curve(sheet, which, curve, checked)?;
+        }
+    }
+    checked.adjusted += u64::from(curves.adjusted.is_some());
+    checked.counts.count(&sheet_bytes(sheet), 0);
+    checked.sheets += 1;
+    if checked.sheets.is_multiple_of(50) {
+        let (sheets, adjusted) = (checked.sheets, checked.adjusted);
+        eprintln!(
+            "{sheets} sheets, {adjusted} of them adjusted, hold their true factors and rates"
+        );
+    }
+    Ok(())
+}
+
+fn check_curve(
+    sheet: &Sheet,
+    which: Which,
+    curve: &Curve,
+    checked: &mut Checked,
+) -> Result<(), String> {
     for order in 0..ORDERS {
-        let years = check(sheet, curve, order).map_err(|e| format!("{e:?}"))?;
+        let years = check(sheet, which, curve, order).map_err(|e| format!("{e:?}"))?;
         if let Some(year) = years.iter().find(|year| !year.holds()) {
-            return Err(format!("order {order}, {year:?}: {sheet:?}"));
+            return Err(format!("order {order}, {which:?}, {year:?}: {sheet:?}"));
         }
     }
     let with_rates = |&year: &usize| ZeroRates::of(curve.factor(year), year).is_some();
     let with_rates = (1..=YEARS).filter(with_rates).count();
     checked.years_with_rates += with_rates as u64;
     checked.years_without += (YEARS - with_rates) as u64;
-    checked.dropped.count(&sheet_bytes(sheet), true);
-    checked.curves += 1;
-    if checked.curves.is_multiple_of(50) {
-        let curves = checked.curves;
-        eprintln!("{curves} curves hold their true factors and rates");
-    }
     Ok(())
 }

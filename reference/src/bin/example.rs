@@ -52,5 +52,6 @@ fn sheet(month: u16, shift: i16) -> Sheet {
         ufr: 3_450,
         limit: 2_500,
         phase_in: None,
+        adjustment: None,
     }
 }

@@ -8,6 +8,7 @@ use std::process::ExitCode;
 
 use reference::arguments::{age_limit, usage_error};
 use reference::book::PAGE_LENGTH;
+use reference::curve::Which;
 use reference::journal::book_after;
 
 fn main() -> io::Result<ExitCode> {
@@ -17,7 +18,7 @@ fn main() -> io::Result<ExitCode> {
     let mut journal = Vec::new();
     io::stdin().read_to_end(&mut journal)?;
     let mut page = [0; PAGE_LENGTH];
-    match book_after(age_limit, &journal).page(&mut page) {
+    match book_after(age_limit, &journal).page(Which::Plain, &mut page) {
         Err(refusal) => println!("refused: {}", refusal.number),
         Ok(()) => {
             let number = |at: usize| u16::from_be_bytes([page[at], page[at + 1]]);

@@ -1,5 +1,5 @@
 //! Reads a journal from standard input, makes its calls on a fresh book and writes
-//! the page, or the line of the refusal. A broken journal gives the desk's X line.
+//! the plain curve's page, or the line of the refusal. A broken journal gives the desk's X line.
 //!
 //!     page [AGE_LIMIT] < journal
 
@@ -8,6 +8,7 @@ use std::process::ExitCode;
 
 use reference::arguments::{age_limit, usage_error};
 use reference::book::{Book, PAGE_LENGTH};
+use reference::curve::Which;
 use reference::desk::{answer, CallReader, Next};
 
 fn main() -> io::Result<ExitCode> {
@@ -33,7 +34,7 @@ fn replay_and_page(mut book: Book, input: impl Read, mut output: impl Write) -> 
 
 fn write_page(book: &Book, output: &mut impl Write) -> io::Result<()> {
     let mut buffer = [0; PAGE_LENGTH];
-    match book.page(&mut buffer) {
+    match book.page(Which::Plain, &mut buffer) {
         Ok(()) => output.write_all(&buffer),
         Err(refusal) => writeln!(output, "{refusal}"),
     }

@@ -1,6 +1,6 @@
 //! Replays the journal of standard input under age limits of 5,000, 3 and 2 and, under each,
-//! pages into the first 0, 1,504, 1,505 and 2,000 bytes of 2,000 lent sevens: writes the
-//! ground's number, or 0, and all bytes.
+//! pages the plain curve and then the adjusted one into the first 0, 1,504, 1,505 and 2,000
+//! bytes of 2,000 lent sevens: writes the ground's number, or 0, and all bytes.
 //!
 //! Then, whatever the journal is, it takes the page of month 5 and age 2 whose year y has the
 //! low 16,909,060 × y and the high 16,909,060 × y + y. For t of 0, 1, 2, 75, 149 and 150 it
@@ -10,6 +10,7 @@
 use std::io::{self, Read, Write};
 
 use reference::book::Book;
+use reference::curve::Which;
 use reference::enclosure::Enclosure;
 use reference::journal::book_after;
 use reference::page::Page;
@@ -30,15 +31,17 @@ fn main() -> io::Result<()> {
     io::stdin().read_to_end(&mut journal)?;
     let mut output = io::stdout().lock();
     for age_limit in AGE_LIMITS {
-        write_pages(&book_after(age_limit, &journal), &mut output)?;
+        let book = book_after(age_limit, &journal);
+        write_pages(&book, Which::Plain, &mut output)?;
+        write_pages(&book, Which::Adjusted, &mut output)?;
     }
     write_states(&mut output)
 }
 
-fn write_pages(book: &Book, output: &mut impl Write) -> io::Result<()> {
+fn write_pages(book: &Book, which: Which, output: &mut impl Write) -> io::Result<()> {
     for length in [0, 1_504, 1_505, 2_000] {
         let mut lent = [7; 2_000];
-        let refusal = book.page(&mut lent[..length]).err();
+        let refusal = book.page(which, &mut lent[..length]).err();
         writeln!(output, "{}", refusal.map_or(0, |r| r.number))?;
         output.write_all(&lent)?;
     }

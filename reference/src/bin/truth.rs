@@ -1,28 +1,33 @@
 //! Reads a sheet from standard input and an order n as first argument; writes
 //! `year low high inside low-rate high-rate between` for each year, with `-` in place of the
-//! last three where the year has no rates, or the line of the refusal. With `slack` as
-//! second argument each line also gives the true factor less the low and the high
-//! less the true factor, in billionths.
+//! last three where the year has no rates, or the line of the refusal. With `adjusted` as a
+//! further argument the years are those of the adjusted curve, in place of the plain one; it is
+//! refused with 14 where the sheet has none. With `slack` as last argument each line also gives
+//! the true factor less the low and the high less the true factor, in billionths.
+//!
+//!     truth ORDER [adjusted] [slack] < sheet
 
 use std::io::{self, Read, Write};
 use std::process::ExitCode;
 
-use reference::curve::Curve;
+use reference::curve::{Curve, Curves, Which};
+use reference::refusal::Refusal;
 use reference::sheet::Sheet;
-use reference::true_curve::{check, RateCheck, YearCheck, SLACK_UNIT};
+use reference::true_curve::{check, NoYearlyFactor, RateCheck, YearCheck, SLACK_UNIT};
 
 fn main() -> io::Result<ExitCode> {
-    let mut arguments = std::env::args().skip(1);
-    let Some(order) = arguments.next().and_then(|n| n.parse().ok()) else {
-        eprintln!("usage: truth order [slack] < sheet");
+    let words: Vec<_> = std::env::args().skip(1).collect();
+    let Some((order, which, with_slack)) = arguments(&words) else {
+        eprintln!("usage: truth ORDER [adjusted] [slack] < sheet");
         return Ok(ExitCode::FAILURE);
     };
-    let with_slack = arguments.next().as_deref() == Some("slack");
     let mut bytes = Vec::new();
     io::stdin().lock().read_to_end(&mut bytes)?;
     let mut output = io::BufWriter::new(io::stdout().lock());
-    let code = match sheet_and_curve(&bytes) {
-        Ok((sheet, curve)) => write_checks(&sheet, &curve, order, with_slack, &mut output)?,
+    let code = match sheet_and_curve(&bytes, which) {
+        Ok((sheet, curve)) => {
+            write_checks(check(&sheet, which, &curve, order), with_slack, &mut output)?
+        }
         Err(refusal) => {
             writeln!(output, "{refusal}")?;
             ExitCode::SUCCESS
@@ -32,20 +37,32 @@ fn main() -> io::Result<ExitCode> {
     Ok(code)
 }
 
-fn sheet_and_curve(bytes: &[u8]) -> Result<(Sheet, Curve), reference::refusal::Refusal> {
+/// The order, the curve and whether slack is told; none where the words are others.
+fn arguments(words: &[String]) -> Option<(usize, Which, bool)> {
+    let (order, rest) = words.split_first()?;
+    let (which, with_slack) = match rest.iter().map(String::as_str).collect::<Vec<_>>()[..] {
+        [] => (Which::Plain, false),
+        ["slack"] => (Which::Plain, true),
+        ["adjusted"] => (Which::Adjusted, false),
+        ["adjusted", "slack"] => (Which::Adjusted, true),
+        _ => return None,
+    };
+    Some((order.parse().ok()?, which, with_slack))
+}
+
+fn sheet_and_curve(bytes: &[u8], which: Which) -> Result<(Sheet, Curve), Refusal> {
     let sheet = Sheet::read(bytes)?;
-    let curve = Curve::of(&sheet)?;
-    Ok((sheet, curve))
+    let curves = Curves::of(&sheet)?;
+    let curve = curves.get(which).ok_or(Refusal::plain(14))?;
+    Ok((sheet, curve.clone()))
 }
 
 fn write_checks(
-    sheet: &Sheet,
-    curve: &Curve,
-    order: usize,
+    checks: Result<Vec<YearCheck>, NoYearlyFactor>,
     with_slack: bool,
     output: &mut impl Write,
 ) -> io::Result<ExitCode> {
-    match check(sheet, curve, order) {
+    match checks {
         Ok(checks) => {
             for check in checks {
                 writeln!(output, "{}", line(&check, with_slack))?;

@@ -3,16 +3,21 @@
 //!     vectors
 //!     vectors zero_rates
 //!     vectors dropped
+//!     vectors adjustment
 //!
 //! The first, stored as phase_in, reaches grounds 1 to 14, with many places, and accepted
 //! curves at many convergence factors, each looked up at its ends, around the smoothing year
 //! and elsewhere. The second reaches ground 17 as well, and looks up all 150 years of curves,
 //! of which some have rates in every year and the others have not. The third has accepted
-//! curves of every pattern of volumes of 0, and sheets with dropped quotes that are refused.
+//! curves of every pattern of volumes of 0, and sheets with dropped quotes that are refused. The
+//! fourth has every tail of a sheet, accepted and refused, curves that no adjustment moves, since
+//! the desk's look-ups are of the plain curve, and sheets that only their adjusted curve turns
+//! down.
 
 use std::io::Write;
 use std::process::ExitCode;
 
+use reference::adjusted::typed_adjusted_sheet;
 use reference::curve::YEARS as LAST_YEAR;
 use reference::dropped::{dropped_sheet, typed_dropped_sheet};
 use reference::every_ground;
@@ -33,7 +38,8 @@ const YEARS: [u8; 8] = [1, 10, 19, 20, 21, 50, 100, 150];
 /// The last month that can be told, so every sheet after the ordinary stream can have it.
 const LAST_MONTH: u16 = 2_399;
 
-/// Lengths that no sheet has; 365 and 368 have those of a sheet in the low byte.
+/// Lengths that no sheet without an adjustment has; 365 and 368 have those of a sheet in the low
+/// byte.
 const WRONG_LENGTHS: [usize; 14] = [
     0, 1, 2, 3, 108, 110, 111, 113, 114, 115, 255, 365, 368, 65_535,
 ];
@@ -53,14 +59,32 @@ const YEARS_OF_DROPPED: [u8; 6] = [1, 20, 21, 30, 50, 150];
 /// Its posts of which any may be refused.
 const ANY_DROPPED: usize = 150;
 
+/// None, and adjustments at the ends of their range, around 0 and between.
+const ADJUSTMENTS: [Option<i16>; 7] = [
+    None,
+    Some(-500),
+    Some(-1),
+    Some(0),
+    Some(1),
+    Some(100),
+    Some(500),
+];
+
+/// Years at which each curve in the stream of adjustments is looked up.
+const YEARS_OF_ADJUSTED: [u8; 4] = [1, 20, 21, 150];
+
+/// Its posts of which any may be refused.
+const ANY_ADJUSTED: usize = 150;
+
 fn main() -> std::io::Result<ExitCode> {
     let words: Vec<_> = std::env::args().skip(1).collect();
     let stream = match words.iter().map(String::as_str).collect::<Vec<_>>()[..] {
         [] => phase_in(),
         ["zero_rates"] => zero_rates(),
         ["dropped"] => dropped(),
+        ["adjustment"] => adjustment(),
         _ => {
-            eprintln!("usage: vectors [zero_rates | dropped]");
+            eprintln!("usage: vectors [zero_rates | dropped | adjustment]");
             return Ok(ExitCode::from(2));
         }
     };
@@ -133,6 +157,69 @@ fn dropped() -> Vec<u8> {
     stream
 }
 
+fn adjustment() -> Vec<u8> {
+    let mut random = Random::new(SEED);
+    let mut stream = bytes(every_ground::base_records());
+    stream.extend(bytes(every_ground::adjusted_records()));
+    stream.extend(turn(LAST_MONTH));
+    let low = |x| low_rates(LAST_MONTH, x);
+    for sheet in [
+        flat(3_000, 3_000),
+        flat(-500, 0),
+        low(None),
+        low(Some(15_000)),
+    ] {
+        for adjustment in ADJUSTMENTS {
+            stream.extend(post(&sheet_bytes(&Sheet {
+                adjustment,
+                ..sheet.clone()
+            })));
+            stream.extend(YEARS_OF_ADJUSTED.into_iter().flat_map(look_up));
+        }
+    }
+    stream.extend(tails());
+    for _ in 0..ANY_ADJUSTED {
+        stream.extend(post(&typed_adjusted_sheet(&mut random, LAST_MONTH)));
+        stream.extend(look_up(random.between(1, 150) as u8));
+    }
+    // The curves that stay.
+    stream.extend(post(&sheet_bytes(&Sheet {
+        adjustment: Some(100),
+        ..flat(3_000, 3_000)
+    })));
+    stream.extend(YEARS_OF_ADJUSTED.into_iter().flat_map(look_up));
+    // A sheet of 115 bytes without its last one.
+    stream.extend([&[0x50, 0, 115], &[0; 114][..]].concat());
+    stream
+}
+
+/// One sheet followed by every kind, alone and behind the phase-in's record, by numbers around
+/// the ends of the range, and by tails of other lengths.
+fn tails() -> Vec<u8> {
+    let sheet = sheet_bytes(&low_rates(LAST_MONTH, None));
+    let followed_by = |tail: &[u8]| post(&[&sheet, tail].concat());
+    let x = [0x06, 0x3A, 0x98];
+    let mut stream = Vec::new();
+    for kind in [0x00, 0x01, 0x05, 0x06, 0x07, 0x08, 0x50, 0xFF] {
+        let record = [kind, 0x00, 0x64];
+        stream.extend(followed_by(&record));
+        stream.extend(followed_by(&[x, record].concat()));
+        stream.extend(followed_by(&[record, x].concat()));
+    }
+    for adjustment in [i16::MIN, -501, -500, -499, 0, 499, 500, 501, i16::MAX] {
+        let [high, low] = adjustment.to_be_bytes();
+        stream.extend(followed_by(&[0x07, high, low]));
+        stream.extend(followed_by(&[x, [0x07, high, low]].concat()));
+    }
+    for length in 0..=9 {
+        stream.extend(followed_by(
+            &[x, [0x07, 0, 0], [0x07, 0, 0]].concat()[..length],
+        ));
+        stream.extend(followed_by(&[0x07; 9][..length]));
+    }
+    stream
+}
+
 /// A volume of 100 more for each maturity where the pattern has a bit, 20's the lowest. Quotes
 /// that are dropped could not be used.
 fn rising_of(pattern: usize) -> Sheet {
@@ -179,6 +266,7 @@ fn flat(rate: i16, ufr: u16) -> Sheet {
         ufr,
         limit: 100_000,
         phase_in: None,
+        adjustment: None,
     }
 }
 
@@ -197,13 +285,13 @@ fn sampled() -> Vec<Sheet> {
 }
 
 fn lacks_rates(sheet: &Sheet) -> bool {
-    worked(sheet).is_some_and(|curve| {
-        (1..=LAST_YEAR).any(|year| ZeroRates::of(curve.factor(year), year).is_none())
+    worked(sheet).is_some_and(|curves| {
+        (1..=LAST_YEAR).any(|year| ZeroRates::of(curves.plain.factor(year), year).is_none())
     })
 }
 
-/// One sheet cut or followed by zeros to lengths that no sheet has; with last records of other
-/// kinds; and with X at, inside and outside its ends, looked up after each.
+/// One sheet cut or followed by zeros to wrong lengths; with last records of other kinds; and
+/// with X at, inside and outside its ends, looked up after each.
 fn lengths_and_last_records() -> Vec<u8> {
     let bytes = sheet_bytes(&low_rates(LAST_MONTH, None));
     let mut stream = post(&bytes);

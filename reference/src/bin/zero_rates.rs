@@ -1,4 +1,4 @@
-//! Writes the annual zero rates of the curve that the journal of standard input leaves, in
+//! Writes the annual zero rates of the plain curve that the journal of standard input leaves, in
 //! the words of examples/zero_rates.c.
 //!
 //!     zero_rates [AGE_LIMIT] < journal
@@ -7,6 +7,7 @@ use std::io::{self, Read};
 use std::process::ExitCode;
 
 use reference::arguments::{age_limit, usage_error};
+use reference::curve::Which;
 use reference::journal::book_after;
 
 fn main() -> io::Result<ExitCode> {
@@ -17,7 +18,7 @@ fn main() -> io::Result<ExitCode> {
     io::stdin().read_to_end(&mut journal)?;
     let book = book_after(age_limit, &journal);
     for year in 1..=150 {
-        match book.look_up(year) {
+        match book.look_up(Which::Plain, year) {
             Err(refusal) => println!("{year} refused: {}", refusal.number),
             Ok(found) => {
                 let (low, high) = (percent(found.rates.low), percent(found.rates.high));

@@ -13,6 +13,8 @@ pub struct Numbers {
     pub limit: u32,
     /// X of the phase-in, where the sheet has its record.
     pub phase_in: Option<u16>,
+    /// The adjustment, where the sheet has its record.
+    pub adjustment: Option<i16>,
 }
 
 /// The zero sheet: month, rates and UFR 0, volumes 1, limit 100,000.
@@ -24,6 +26,7 @@ pub fn zero() -> Numbers {
         ufr: 0,
         limit: 100_000,
         phase_in: None,
+        adjustment: None,
     }
 }
 
@@ -59,6 +62,15 @@ impl Numbers {
         }
     }
 
+    /// The sheet with the adjustment's record.
+    #[allow(dead_code)]
+    pub fn adjusted(self, adjustment: i16) -> Self {
+        Numbers {
+            adjustment: Some(adjustment),
+            ..self
+        }
+    }
+
     /// The sheet with the rate of `maturity` replaced.
     #[allow(dead_code)]
     pub fn with_rate(mut self, maturity: u8, rate: i16) -> Self {
@@ -89,6 +101,10 @@ impl Numbers {
         if let Some(x) = self.phase_in {
             bytes.push(0x06);
             bytes.extend(x.to_be_bytes());
+        }
+        if let Some(adjustment) = self.adjustment {
+            bytes.push(0x07);
+            bytes.extend(adjustment.to_be_bytes());
         }
         bytes
     }

@@ -1,7 +1,8 @@
 //! The curve in the words of the paper and in plain whole numbers, over a given list of quotes.
 //! LLFR is the paper's formula on the forwards g1 to g5 of gaps 15-20, 20-25, 25-30, 30-40 and
 //! 40-50: with every quote this is the rule from before quotes were dropped. Where a gap runs
-//! on over dropped maturities, its forward stands for each of these gaps inside it.
+//! on over dropped maturities, its forward stands for each of these gaps inside it. The adjusted
+//! curve starts again from the same years and forwards.
 
 use reference::series::{growth, neg_log};
 use reference::sheet::{Sheet, MATURITIES};
@@ -33,12 +34,42 @@ pub struct Model {
 
 impl Model {
     /// By the rule from before quotes were dropped: all seventeen are used.
+    #[allow(dead_code)]
     pub fn of_all_quotes(sheet: &Sheet) -> Result<Model, Ground> {
         Model::over(sheet, &[25, 30, 40, 50])
     }
 
     /// Over the quotes up to 20 and those of `later` maturities.
     pub fn over(sheet: &Sheet, later: &[u8]) -> Result<Model, Ground> {
+        let (years, g) = Model::quoted(sheet, later)?;
+        years.extrapolate(sheet, llfr(sheet.volumes, g))
+    }
+
+    /// The plain curve and, with the sheet's adjustment, the adjusted one, or the first ground of
+    /// either.
+    #[allow(dead_code)]
+    pub fn both_over(sheet: &Sheet, later: &[u8], adjustment: i16) -> Result<[Model; 2], Ground> {
+        let plain = Model::over(sheet, later)?;
+        let (mut years, mut g) = Model::quoted(sheet, later)?;
+        let more = 10_000 * i128::from(adjustment);
+        years.lows.truncate(20);
+        years.highs.truncate(20);
+        for t in 1..=20 {
+            for _ in 0..t {
+                (years.lows[t - 1], years.highs[t - 1]) =
+                    step((years.lows[t - 1], years.highs[t - 1]), (more, more));
+            }
+            if years.highs[t - 1] > 2 * U {
+                return Err((8, t as u8));
+            }
+        }
+        g[0] = (g[0].0 + more, g[0].1 + more);
+        let adjusted = years.extrapolate(sheet, llfr(sheet.volumes, g))?;
+        Ok([plain, adjusted])
+    }
+
+    /// The years from the quotes, and g1 to g5.
+    fn quoted(sheet: &Sheet, later: &[u8]) -> Result<(Model, [(i128, i128); 5]), Ground> {
         let mut years = Model::default();
         let mut g = [(0, 0); 5];
         for (maturity, rate) in MATURITIES.into_iter().zip(sheet.rates.map(i128::from)) {
@@ -57,7 +88,7 @@ impl Model {
             }
             years.push_by_par(rate)?;
         }
-        years.extrapolate(sheet, llfr(sheet.volumes, g))
+        Ok((years, g))
     }
 
     fn sums(&self) -> (i128, i128) {
@@ -145,15 +176,9 @@ impl Model {
             let low = |k| down(l.0 * (U - k) + llfr.0 * k, U);
             let high = |k| up(l.1 * (U - k) + llfr.1 * k, U);
             let f = (low(k.low).min(low(k.high)), high(k.low).max(high(k.high)));
-            let (low, high) = (self.lows[19 + i], self.highs[19 + i]);
-            self.lows.push(match f.1 {
-                0.. => down(low * U, growth(f.1).high),
-                _ => down(low * growth(-f.1).low, U),
-            });
-            self.highs.push(match f.0 {
-                0.. => up(high * U, growth(f.0).low),
-                _ => up(high * growth(-f.0).high, U),
-            });
+            let (low, high) = step((self.lows[19 + i], self.highs[19 + i]), f);
+            self.lows.push(low);
+            self.highs.push(high);
             if self.highs[20 + i] > 2 * U {
                 return Err((8, 21 + i as u8));
             }
@@ -164,6 +189,19 @@ impl Model {
             None => Ok(self),
         }
     }
+}
+
+/// The step of extrapolated years: from one year's low and high to the next one's.
+fn step((low, high): (i128, i128), f: (i128, i128)) -> (i128, i128) {
+    let low = match f.1 {
+        0.. => down(low * U, growth(f.1).high),
+        _ => down(low * growth(-f.1).low, U),
+    };
+    let high = match f.0 {
+        0.. => up(high * U, growth(f.0).low),
+        _ => up(high * growth(-f.0).high, U),
+    };
+    (low, high)
 }
 
 /// From the ends of the halving: the last x at which `before` holds and the next one.
