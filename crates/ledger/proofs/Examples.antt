@@ -1,14 +1,15 @@
 -- A day of calls by computation: a wrong definition, or a wrong count, shows here in numbers. And the old box's answer of that day,
 -- February's curve under a March heading, is refused by demand 3 itself. What is seen of one book stands in one list, so that the
 -- book's curve is worked once.
-use mathlib.Core.Path.{_≡_, refl, ap}
+use mathlib.Core.Path.{_≡_, refl, ap, sym, _∙_}
+use mathlib.Core.Bool.{true, false, false≢true}
 use mathlib.Core.List.{List, [], _∷_, _++_, map}
 use Prim.Native.Nat.{ℕ, _-_, _≤_}
 use native.Mathlib.Omega.{arith}
 use lib.IntN.{ℤ, pos}
 use lib.ListN.{replicate, take, drop}
 use lib.Signed.{leZ-yes}
-use Rattle.method.specs.Units.{plain, pair, SignedPair, signedPair}
+use Rattle.method.specs.Units.{plain, adjusted, pair, SignedPair, signedPair}
 use Rattle.method.specs.Grounds.{numberOf, noCurve, ageAboveLimit, Outcome, refused, done}
 use Rattle.method.specs.Figures.{sheetOf, rateRecords, volumeRecords}
 use Rattle.method.proofs.Computes.{computes}
@@ -19,8 +20,8 @@ use Rattle.ledger.specs.Answers.{Finding, finding, answerNumber}
 use Rattle.ledger.specs.Page.{yearRecords, pageBytes}
 use Rattle.ledger.specs.Book.{Book, fresh, post, postOutcome, turn, turnOutcome, lookIn, lookUp, page, pageOutcome}
 use Rattle.ledger.specs.Calls.{Call, postOf, turnTo, lookAt, pageInto, asks, runFrom, run}
-use Rattle.ledger.specs.Count.{posted, Count, monthOf, count, acceptsSheet, acceptsMonth}
-use Rattle.ledger.specs.Tells.{bandOf, LookTells, PageTells}
+use Rattle.ledger.specs.Count.{posted, Count, monthOf, carries, count, acceptsSheet, acceptsMonth}
+use Rattle.ledger.specs.Tells.{missing, bandOf, LookTells, PageTells}
 use Rattle.ledger.proofs.Asked.{refusal-kept, other-ground}
 
 -- a sheet with all rates alike, volumes 1 and ultimate rate 0
@@ -277,3 +278,99 @@ steep-unrated exists = let z : _≡_ {A = ℕ} 0 1 = cc (greatest-reaches 150 0 
 
 unrated-shown : (f : Finding) → LookTells 2_399 (record { told = 0; sheet = posted steep }) plain 150 (done f) → ⊥
 unrated-shown f tells = refusal-kept refl (tells .no-high-rate steep (refl, refl) (omega arith) (omega arith) (omega arith) steep-unrated)
+
+-- ---- the adjusted curve: March's sheet with an adjustment of 0.1%, and without
+
+adjusted-march : List ℕ
+adjusted-march = march ++ 0x07 ∷ 0 ∷ 100 ∷ []
+
+-- a look-up of the adjusted curve
+other : Book → ℕ → List ℕ
+other b y = numbers (lookUp b adjusted y)
+  where
+    numbers : Outcome Finding → List ℕ
+    numbers (refused g) = numberOf g ∷ []
+    numbers (done f) = 0 ∷ f .low ∷ f .high ∷ f .month ∷ f .age ∷ []
+
+-- both curves of one sheet, with its month; year 151: 13; of its page hex 48 and the record of year 20. Then a sheet without an adjustment
+-- is posted: 14, for the page too; and a plain look-up finds it
+two-curves : Book → List (List ℕ)
+two-curves b =
+    let out = page b adjusted (replicate 1_505 7) .buffer in
+    let later = runFrom b (postOf march ∷ []) in
+    look b 20
+    ∷ other b 20
+    ∷ other b 151
+    ∷ take 1 out
+    ∷ take 10 (drop 195 out)
+    ∷ other later 20
+    ∷ answers (page later adjusted [] .answer)
+    ∷ look later 20
+    ∷ []
+
+adjusted-opens : ℕ
+unfolding opens adjusted-march other two-curves
+adjusted-opens = 0
+
+two-curves-seen :
+    two-curves (run 2_399 (turnTo 3 ∷ postOf adjusted-march ∷ []))
+    ≡ (0 ∷ 553_675_753 ∷ 553_675_756 ∷ 2 ∷ 1 ∷ [])
+    ∷ (0 ∷ 542_712_164 ∷ 542_712_255 ∷ 2 ∷ 1 ∷ [])
+    ∷ (13 ∷ [])
+    ∷ (0x48 ∷ [])
+    ∷ (0x59 ∷ 20 ∷ 32 ∷ 89 ∷ 33 ∷ 100 ∷ 32 ∷ 89 ∷ 33 ∷ 191 ∷ [])
+    ∷ (14 ∷ [])
+    ∷ (14 ∷ [])
+    ∷ (0 ∷ 553_675_753 ∷ 553_675_756 ∷ 2 ∷ 1 ∷ [])
+    ∷ []
+unfolding adjusted-opens
+two-curves-seen = refl
+
+-- none stands in a fresh book
+fresh-other : other (fresh 2_399) 20 ≡ 14 ∷ []
+unfolding adjusted-opens
+fresh-other = refl
+
+-- the count holds the sheet, which carries both
+abbrev with-sheet : List ℕ → Count
+with-sheet s = record { told = 3; sheet = posted s }
+
+carried : carries adjusted adjusted-march ≡ true
+unfolding adjusted-opens
+carried = refl
+
+adjusted-band : bandOf adjusted adjusted-march 20 .low ≡ 542_712_164
+unfolding adjusted-opens
+adjusted-band = refl
+
+month-2 : monthOf adjusted-march ≡ 2
+unfolding adjusted-opens
+month-2 = refl
+
+adjusted-young : 3 - monthOf adjusted-march ≤ 2_399
+adjusted-young = omega (arith, month-2)
+
+adjusted-rated : HighRateExists 20 (bandOf adjusted adjusted-march 20 .low)
+unfolding adjusted-opens
+adjusted-rated = exists-by 20 542_712_164 refl
+
+-- demand 3 refuses the plain factor as the adjusted one; 14 where the sheet has an adjustment; and any factor where it has none
+plain-as-adjusted : (r : SignedPair) → LookTells 2_399 (with-sheet adjusted-march) adjusted 20 (done (finding (pair 553_675_753 553_675_756) r 2 1)) → ⊥
+plain-as-adjusted r tells =
+    let found = tells .finds adjusted-march (refl, carried) adjusted-young (omega arith) (omega arith) adjusted-rated .found in
+    let low : _≡_ {A = ℕ} 553_675_753 (bandOf adjusted adjusted-march 20 .low) = ap low-of found in
+    omega (arith, low, adjusted-band)
+
+not-missing : missing adjusted (posted adjusted-march) ≡ false
+unfolding adjusted-opens
+not-missing = refl
+
+adjusted-said-missing : LookTells 2_399 (with-sheet adjusted-march) adjusted 20 (refused noCurve) → ⊥
+adjusted-said-missing tells = false≢true (sym not-missing ∙ tells .none-found (omega arith) (omega arith) .0 refl)
+
+is-missing : missing adjusted (posted march) ≡ true
+unfolding adjusted-opens
+is-missing = refl
+
+missing-shown : (f : Finding) → LookTells 2_399 (with-sheet march) adjusted 20 (done f) → ⊥
+missing-shown f tells = refusal-kept refl (tells .none-found (omega arith) (omega arith) .1 is-missing)

@@ -218,17 +218,28 @@ droppedFigures =
 -- those of the adjustment
 unfoldable pub adjustmentFigures : List Figure
 adjustmentFigures =
-    -- 3% with an adjustment of 100: years 1, 20 and 150 of the adjusted curve; the plain one as without
+    -- 3% with an adjustment of 100: years 1, 20 and 150 of the adjusted curve; year 150 of the plain one, with it and without
     (ends (yearsOf adjusted 1 1 (answer (adjustedBy (threePercent 100_000) 100))) is (969_903_391 ∷ 969_903_399 ∷ []))
     ∷ (ends (yearsOf adjusted 20 1 (answer (adjustedBy (threePercent 100_000) 100))) is (542_712_164 ∷ 542_712_255 ∷ []))
     ∷ (ends (yearsOf adjusted 150 1 (answer (adjustedBy (threePercent 100_000) 100))) is (11_610_751 ∷ 11_610_817 ∷ []))
-    -- an adjustment of 0 is a curve of its own; a sheet without has none
-    -- 8 and 10 on the adjusted curve alone
+    ∷ (ends (yearsOf plain 150 1 (answer (adjustedBy (threePercent 100_000) 100))) is (11_869_019 ∷ 11_869_083 ∷ []))
+    ∷ (ends (yearsOf plain 150 1 (answer (threePercent 100_000))) is (11_869_019 ∷ 11_869_083 ∷ []))
+    -- November with X 20,000 and an adjustment of -75
+    ∷ (ends (yearsOf adjusted 20 1 (answer (adjustedBy (phased november 20_000) (minus 75)))) is (1_012_269_593 ∷ 1_012_269_756 ∷ []))
+    ∷ (ends (yearsOf adjusted 150 1 (answer (adjustedBy (phased november 20_000) (minus 75)))) is (650_550_363 ∷ 650_552_197 ∷ []))
+    -- an adjustment of 0 is a curve of its own; a sheet without one has none
+    ∷ (ends (yearsOf adjusted 20 1 (answer (adjustedBy (zeroSheet 100_000) 0))) is (999_999_980 ∷ 1_000_000_000 ∷ []))
+    ∷ (ends (yearsOf adjusted 20 1 (answer (zeroSheet 100_000))) is [])
+    -- 8 and 10 on the adjusted curve alone, after the plain one's 10
     ∷ (answerOf (answer deepRates) is (0 ∷ 0 ∷ []))
     ∷ (answerOf (answer (adjustedBy deepRates (minus 500))) is (8 ∷ 41 ∷ []))
-    -- another kind; beyond the range on either side; before the phase-in's record; at the range's ends, and after it
+    ∷ (answerOf (answer (adjustedBy (zeroSheet 2_208) 0)) is (10 ∷ 150 ∷ []))
+    ∷ (answerOf (answer (adjustedBy (zeroSheet 2_209) 0)) is (10 ∷ 149 ∷ []))
+    -- another kind; beyond the range on either side; before the phase-in's record; 113 and 116 bytes
     ∷ (answerOf (answer (zeroSheet 100_000 ++ 0x05 ∷ 0 ∷ 0 ∷ [])) is (2 ∷ 26 ∷ []))
     ∷ (answerOf (answer (adjustedBy (zeroSheet 100_000) 501)) is (3 ∷ 26 ∷ []))
     ∷ (answerOf (answer (adjustedBy (zeroSheet 100_000) (minus 501))) is (3 ∷ 26 ∷ []))
     ∷ (answerOf (answer (phased (adjustedBy (zeroSheet 100_000) 0) 10_000)) is (2 ∷ 26 ∷ []))
+    ∷ (answerOf (answer (adjustedBy (zeroSheet 100_000) 0 ++ 0 ∷ [])) is (1 ∷ 0 ∷ []))
+    ∷ (answerOf (answer (adjustedBy (phased (zeroSheet 100_000) 10_000) 0 ++ 0 ∷ [])) is (1 ∷ 0 ∷ []))
     ∷ []
