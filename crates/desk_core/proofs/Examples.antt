@@ -3,7 +3,7 @@ use mathlib.Core.List.{List, [], _∷_, _++_}
 use mathlib.Core.Path.{_≡_, refl}
 use Prim.Native.Nat.{ℕ}
 use lib.ListN.{replicate}
-use Rattle.method.specs.Figures.{sheetOf, rateRecords, volumeRecords, zeroSheet}
+use Rattle.figures.specs.Figures.{sheetOf, rateRecords, volumeRecords, zeroSheet}
 use Rattle.method.proofs.Computes.{computes}
 use Rattle.zero_rates.proofs.Computes.{rates-compute}
 use Rattle.ledger.specs.Book.{post, postOutcome, turn, turnOutcome, lookIn}

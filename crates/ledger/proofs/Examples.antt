@@ -11,7 +11,7 @@ use lib.ListN.{replicate, take, drop}
 use lib.Signed.{leZ-yes}
 use Rattle.method.specs.Units.{plain, adjusted, pair, SignedPair, signedPair}
 use Rattle.method.specs.Grounds.{numberOf, noCurve, ageAboveLimit, Outcome, refused, done}
-use Rattle.method.specs.Figures.{sheetOf, rateRecords, volumeRecords}
+use Rattle.figures.specs.Figures.{sheetOf, rateRecords, volumeRecords}
 use Rattle.method.proofs.Computes.{computes}
 use Rattle.zero_rates.specs.Meaning.{grown, AtMost, HighRateExists}
 use Rattle.zero_rates.proofs.Computes.{rates-compute}

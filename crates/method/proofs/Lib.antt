@@ -1,5 +1,4 @@
 pub mod Computes
-pub mod Figures
 pub mod Outcome
 pub mod Holding
 pub mod Enclosed
@@ -39,6 +38,7 @@ pub mod Filling
 pub mod Enclosure
 pub mod Slots
 pub mod Layouts
+pub mod SheetExamples
 pub mod Reading
 pub mod InBytes
 pub mod SheetBounds

@@ -9,6 +9,5 @@ pub mod Table
 pub mod Extrapolation
 pub mod Curve
 pub mod Earlier
-pub mod Figures
 pub mod True
 pub mod Enclosure

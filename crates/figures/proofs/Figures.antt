@@ -1,8 +1,8 @@
 -- The figures of SPECIFICATION 12, by computation over the definitions.
 use mathlib.Core.Path.{refl}
-use Rattle.method.specs.Figures.{FiguresHold, marked, others, phaseInFigures, droppedFigures, adjustmentFigures}
-use Rattle.method.specs.Figures.{rateRecords, volumeRecords, factorsOf, yearsIn, yearsOf, answerOf}
+use Rattle.figures.specs.Figures.{FiguresHold, marked, others, phaseInFigures, droppedFigures, adjustmentFigures}
+use Rattle.figures.specs.Figures.{rateRecords, volumeRecords, factorsOf, yearsIn, yearsOf, answerOf}
 use Rattle.method.proofs.Computes.{computes}
 
 pub marked-figures : FiguresHold marked
 unfolding computes rateRecords volumeRecords factorsOf yearsIn yearsOf answerOf marked
