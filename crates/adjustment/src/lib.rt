@@ -1,4 +1,4 @@
-// The volatility adjustment, equal to the definitions of the crate method (SPECIFICATION 5.7): the years to 20 taken through the
+// The volatility adjustment, equal to the definitions of the crate method (SPECIFICATION 5.6): the years to 20 taken through the
 // year's step, year t t times, and the first of LLFR's forwards raised. E at the adjustment is worked once for each side.
 use extrapolation::Extended;
 use extrapolation::Forwards;

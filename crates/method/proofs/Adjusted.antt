@@ -118,16 +118,6 @@ adjusted-encloses n a h year (more {p} {ps} k r) e =
 
 -- ---- g1
 
-pub raised-length : (a : ℤ) (gs : List SignedPair) → length (firstRaised a gs) ≡ length gs
-unfolding firstRaised
-raised-length a [] = refl
-raised-length a (g ∷ gs) = refl
-
-pub va-length : (v : ℚ) (fs : List ℚ) → length (withVA v fs) ≡ length fs
-unfolding withVA
-va-length v [] = refl
-va-length v (f ∷ fs) = refl
-
 -- whichever gap it is
 pub raised-encloses : (a : ℤ) (gs : List SignedPair) (fs : List ℚ) (i : ℕ) → i < length gs → length fs ≡ length gs →
     Encloses (getD gs i zeroPair .low) (getD gs i zeroPair .high) (getD fs i (natℚ 0)) →
@@ -138,6 +128,16 @@ raised-encloses a [] fs i h l e = absurd (omega arith)
 raised-encloses a (g ∷ gs) [] i h l e = absurd (omega arith)
 raised-encloses a (g ∷ gs) (f ∷ fs) zero h l e = encloses-+ e (encloses-≈ (VA-is a) (encloses-exact (billionths a)))
 raised-encloses a (g ∷ gs) (f ∷ fs) (suc i) h l e = e
+
+pub raised-length : (a : ℤ) (gs : List SignedPair) → length (firstRaised a gs) ≡ length gs
+unfolding firstRaised
+raised-length a [] = refl
+raised-length a (g ∷ gs) = refl
+
+pub va-length : (v : ℚ) (fs : List ℚ) → length (withVA v fs) ≡ length fs
+unfolding withVA
+va-length v [] = refl
+va-length v (f ∷ fs) = refl
 
 pub raised-within : (M : ℕ) (a : ℤ) → natAbs a ≤ 500 → (gs : List SignedPair) (i : ℕ) → Within M (getD gs i zeroPair) →
     Within (M + 5_000_000) (getD (firstRaised a gs) i zeroPair)

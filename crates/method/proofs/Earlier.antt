@@ -21,7 +21,7 @@ use Rattle.method.specs.Curve.{smoothingYear, smoothingIndex, usedBy, us
 use Rattle.method.specs.Curve.{Curve, Curves, none, curveWith, curveOf, curvesOf, answer}
 use Rattle.method.specs.Earlier.{tabledCurve, everyQuoteCurve}
 use Rattle.method.proofs.Outcome.{bind-assoc, bind-with}
-use Rattle.method.proofs.Layouts.{layout-is}
+use Rattle.method.proofs.Layouts.{layout-is, adjusts-by-record}
 use Rattle.method.proofs.Reading.{read-passes}
 use Rattle.method.proofs.SheetBounds.{read-bounds}
 use Rattle.method.proofs.Entries.{spelled-out}
@@ -120,7 +120,7 @@ module _ (s : List ℕ) (h : length s ≤ 109) where
       bind-with (readSheet s)
       λ n e.
       let numbers = read-passes s n e .numbers in
-      without-adjustment n (subst (λ (m : Numbers). m .adjusts ≡ false) numbers (ap (λ (l : Layout). l .adjusts) neither))
+      without-adjustment n (subst (λ (m : Numbers). m .adjusts ≡ false) numbers (adjusts-by-record s ∙ ap (λ (l : Layout). l .adjusts) neither))
       ∙ ap (λ (o : Outcome Curve). o >>= λ c. done (alone c))
       (at-ten-percent n (read-bounds s n e .rate-count) (subst (λ (m : Numbers). factorOf m ≡ 10_000_000) numbers without-record))
 

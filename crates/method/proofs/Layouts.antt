@@ -7,7 +7,7 @@ use native.Mathlib.Omega.{arith}
 use borrow.Author.Tests.{ne-eqb, ltb-true, ltb-false}
 use lib.Dec.{eqb, ltb}
 use lib.ListN.{length, getD}
-use Rattle.method.specs.Sheet.{maturities, volumeMaturities, total, firstEntries, bytesOf, Layout, layoutOf, entriesOf, sizeOf}
+use Rattle.method.specs.Sheet.{maturities, volumeMaturities, total, firstEntries, bytesOf, Layout, layoutOf, entriesOf, sizeOf, sheetNumbers}
 use Rattle.method.proofs.Outcome.{split}
 
 abbrev pub layout : Bool → Bool → Layout
@@ -39,6 +39,10 @@ module _ (s : List ℕ) where
   pub layout-is : layoutOf s ≡ layout (ltb 109 (length s) && (ltb 112 (length s) || not named)) (ltb 109 (length s) && (ltb 112 (length s) || named))
   unfolding layoutOf
   layout-is = rw first-bytes refl
+
+  -- a sheet has an adjustment where its record stands, whatever the number: 0 is one
+  pub adjusts-by-record : sheetNumbers s .adjusts ≡ layoutOf s .adjusts
+  adjusts-by-record = refl
 
   module _ (P : Layout → Type 0) where
     -- by the length, and by the 26th kind byte where there is one record more
