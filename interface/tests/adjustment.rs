@@ -10,7 +10,7 @@ use reference::curve::Which;
 use reference::journal::{look_up, post, turn};
 use reference::questions::{age_limits, kind};
 use reference::sheet::Sheet;
-use reference::streams::{low_rates, sheet_bytes, steep_sheet, Random};
+use reference::streams::{low_rates, sheet_bytes, steep_sheet, zero_sheet, Random};
 
 /// The length of a page.
 const PAGE: usize = 1_505;
@@ -24,23 +24,11 @@ const PLAIN_KINDS: [u64; 6] = [PLAIN, 2, 1 << 8, 1 << 32, 1 << 63, 0xFFFF_FFFF_F
 /// Numbers that name the adjusted curve.
 const ADJUSTED_KINDS: [u64; 6] = [ADJUSTED, 3, 257, (1 << 32) + 1, (1 << 63) + 1, u64::MAX];
 
-fn zero() -> Sheet {
-    Sheet {
-        month: 0,
-        rates: [0; 17],
-        volumes: [1; 5],
-        ufr: 0,
-        limit: 100_000,
-        phase_in: None,
-        adjustment: None,
-    }
-}
-
 fn flat(rate: i16, ufr: u16) -> Sheet {
     Sheet {
         rates: [rate; 17],
         ufr,
-        ..zero()
+        ..zero_sheet(0)
     }
 }
 
@@ -56,7 +44,7 @@ fn near_2_u() -> Sheet {
 
 /// Years 10 to 17 have no high rate.
 fn steep() -> Sheet {
-    let mut sheet = zero();
+    let mut sheet = zero_sheet(0);
     sheet.rates[9..].fill(11_111);
     sheet
 }
@@ -130,16 +118,16 @@ fn figures() {
     // E(0) is U to U + 1, so that each step takes 1 from the low.
     for year in 1..=20 {
         let adjusted = (1_000_000_000 - year, 1_000_000_000);
-        assert_eq!(band(&with(0, zero()), ADJUSTED, year), adjusted);
+        assert_eq!(band(&with(0, zero_sheet(0)), ADJUSTED, year), adjusted);
     }
     // E(10,000) is U + 10,000 to U + 10,007.
-    let below = with(-1, zero());
+    let below = with(-1, zero_sheet(0));
     assert_eq!(band(&below, ADJUSTED, 1), (1_000_010_000, 1_000_010_007));
 }
 
 #[test]
 fn every_byte_of_an_adjusted_reply() {
-    let journal = [posted(&with(-1, zero())), turn(0x0203)].concat();
+    let journal = [posted(&with(-1, zero_sheet(0))), turn(0x0203)].concat();
     // 1,000,010,000 to 1,000,010,007, month 0, age 515, rates -2 and 0: growth at -1 is
     // 999,990,000, which times the low is just below U × U and times the high just above.
     let expected = [
@@ -184,15 +172,15 @@ fn a_page_has_the_bands_of_its_look_ups() {
 fn a_missing_adjusted_curve_answers_14() {
     let refused = posted(&with(-500, near_2_u()));
     let none = [vec![], turn(9), refused.clone()];
-    let some = [posted(&zero()), posted(&low_rates(0, Some(20_000)))];
-    let replaced = [posted(&with(0, zero())), posted(&zero())].concat();
+    let some = [posted(&zero_sheet(0)), posted(&low_rates(0, Some(20_000)))];
+    let replaced = [posted(&with(0, zero_sheet(0))), posted(&zero_sheet(0))].concat();
     for age_limit in age_limits(&mut Random::new(45)) {
         for kind in ADJUSTED_KINDS {
             for journal in none.iter().chain(&some).chain([&replaced]) {
                 assert_eq!(looked(age_limit, journal, kind, 1, REPLY), 14);
                 assert_eq!(paged(age_limit, journal, kind, PAGE), 14);
             }
-            let kept = [posted(&with(0, zero())), refused.clone()].concat();
+            let kept = [posted(&with(0, zero_sheet(0))), refused.clone()].concat();
             assert_eq!(looked(age_limit, &kept, kind, 1, REPLY), 0);
             assert_eq!(paged(age_limit, &kept, kind, PAGE), 0);
         }
@@ -233,7 +221,7 @@ fn grounds_come_in_their_order() {
 
 #[test]
 fn tails() {
-    let followed_by = |tail: &[u8]| answered(&post(&[&sheet_bytes(&zero()), tail].concat()));
+    let followed_by = |tail: &[u8]| answered(&post(&[&sheet_bytes(&zero_sheet(0)), tail].concat()));
     assert_eq!(followed_by(&[0x07, 0, 0]), (0, 0));
     assert_eq!(followed_by(&[0x05, 0, 0]), (2, 26));
     assert_eq!(followed_by(&[0x07, 0x01, 0xF5]), (3, 26));
@@ -264,8 +252,8 @@ fn a_post_fails_as_a_whole() {
     for (sheet, adjustment, expected) in [
         (near_2_u(), -500, (8, 41)),
         (limited(2_453, near_2_u()), -500, (8, 41)),
-        (limited(2_209, zero()), 0, (10, 149)),
-        (limited(2_228, zero()), 0, (10, 150)),
+        (limited(2_209, zero_sheet(0)), 0, (10, 149)),
+        (limited(2_228, zero_sheet(0)), 0, (10, 150)),
     ] {
         assert_eq!(answered(&posted(&sheet)), (0, 0));
         let refused = posted(&with(adjustment, sheet));
@@ -282,10 +270,13 @@ fn a_post_fails_as_a_whole() {
         (10, 11)
     );
     assert_eq!(
-        answered(&posted(&with(0, limited(2_208, zero())))),
+        answered(&posted(&with(0, limited(2_208, zero_sheet(0))))),
         (10, 150)
     );
-    assert_eq!(answered(&posted(&with(0, limited(2_229, zero())))), (0, 0));
+    assert_eq!(
+        answered(&posted(&with(0, limited(2_229, zero_sheet(0))))),
+        (0, 0)
+    );
 }
 
 // Beside the second implementation
@@ -318,7 +309,7 @@ fn every_year_of_every_adjustment_agrees() {
     let mut met = Met::default();
     let years: Vec<u8> = (0..=151).collect();
     for adjustment in [-500, -1, 0, 1, 500] {
-        for sheet in [zero(), steep(), low_rates(0, Some(20_000))] {
+        for sheet in [zero_sheet(0), steep(), low_rates(0, Some(20_000))] {
             let journal = posted(&with(adjustment, sheet));
             let case = Case::replayed(LARGEST_AGE_LIMIT, &journal);
             ask_curves(&mut random, &case, &mut met, &years);

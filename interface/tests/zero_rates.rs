@@ -8,7 +8,7 @@ use reference::curve::Which;
 use reference::journal::{look_up, post, turn};
 use reference::questions::age_limits;
 use reference::sheet::Sheet;
-use reference::streams::{low_rates, sheet_bytes, steep_sheet, worked, Random};
+use reference::streams::{low_rates, sheet_bytes, steep_sheet, worked, zero_sheet, Random};
 
 /// The length of a reply.
 const REPLY: usize = 28;
@@ -16,22 +16,9 @@ const REPLY: usize = 28;
 /// What lent bytes hold.
 const LENT: u8 = 9;
 
-/// The zero sheet of `month`.
-fn zero(month: u16) -> Sheet {
-    Sheet {
-        month,
-        rates: [0; 17],
-        volumes: [1; 5],
-        ufr: 0,
-        limit: 100_000,
-        phase_in: None,
-        adjustment: None,
-    }
-}
-
 /// The zero sheet with these rates for maturities 8, 9 and all later ones.
 fn tail(rate_8: i16, rate_9: i16, later: i16) -> Sheet {
-    let mut sheet = zero(0);
+    let mut sheet = zero_sheet(0);
     sheet.rates[7..9].copy_from_slice(&[rate_8, rate_9]);
     sheet.rates[9..].fill(later);
     sheet
@@ -74,7 +61,7 @@ fn looked(age_limit: u64, journal: &[u8], year: u64, length: usize) -> u64 {
 
 #[test]
 fn every_byte_of_a_reply() {
-    let mut sheet = zero(0x0102);
+    let mut sheet = zero_sheet(0x0102);
     sheet.rates[0] = -500;
     let journal = [turn(0x0102), posted(&sheet), turn(0x0305)].concat();
     // 1,005,025,125 to 1,005,025,126, month 258, age 515, rates -501 and -499.
@@ -102,13 +89,13 @@ fn bytes_past_the_reply_are_kept() {
 fn rates_worked_by_hand() {
     let flat = |rate| Sheet {
         rates: [rate; 17],
-        ..zero(0)
+        ..zero_sheet(0)
     };
     for year in 1..=20 {
-        assert_eq!(rates(&zero(0), year), (0, 0));
+        assert_eq!(rates(&zero_sheet(0), year), (0, 0));
     }
     for year in [21, 22, 150] {
-        assert_eq!(rates(&zero(0), year), (-1, 1));
+        assert_eq!(rates(&zero_sheet(0), year), (-1, 1));
     }
     assert_eq!(rates(&flat(3_000), 1), (2_999, 3_001));
     assert_eq!(rates(&flat(3_000), 2), (2_999, 3_001));

@@ -3,7 +3,7 @@
 
 use crate::journal::{look_up, post, turn};
 use crate::sheet::{Sheet, MATURITIES};
-use crate::streams::sheet_bytes;
+use crate::streams::{sheet_bytes, zero_sheet};
 
 /// The age limit of the book that gives these answers.
 pub const AGE_LIMIT: u64 = 3;
@@ -31,7 +31,7 @@ pub fn desk_records() -> Vec<Answered> {
 /// The records that meet grounds 1 to 14. They leave month 2 told and the curve of month 1.
 pub fn base_records() -> Vec<Answered> {
     let posted = |sheet: Sheet| post(&sheet_bytes(&sheet));
-    let followed_by = |bytes: &[u8]| post(&[&sheet_bytes(&zero()), bytes].concat());
+    let followed_by = |bytes: &[u8]| post(&[&sheet_bytes(&zero_sheet(0)), bytes].concat());
     vec![
         (look_up(150), 14, 0),
         (post(&[]), 1, 0),
@@ -41,11 +41,11 @@ pub fn base_records() -> Vec<Answered> {
         (post(&[0; 109]), 2, 1),
         (post(&[0; 112]), 2, 1),
         (followed_by(&[0x07, 0x4E, 0x20]), 3, 26),
-        (posted(with_rate(zero(), 12, 12_001)), 3, 12),
+        (posted(with_rate(zero_sheet(0), 12, 12_001)), 3, 12),
         (posted(with_x(9_999)), 3, 26),
         (posted(with_x(20_001)), 3, 26),
         (posted(untraded()), 4, 0),
-        (posted(of_month(1)), 5, 0),
+        (posted(zero_sheet(1)), 5, 0),
         (posted(fall()), 7, 10),
         (posted(flat(-2_000)), 8, 35),
         (posted(with_rate(flat(3_000), 12, 12_000)), 9, 12),
@@ -55,7 +55,7 @@ pub fn base_records() -> Vec<Answered> {
         (posted(with_x(20_000)), 0, 0),
         (turn(2), 0, 0),
         (turn(1), 12, 0),
-        (posted(of_month(1)), 0, 0),
+        (posted(zero_sheet(1)), 0, 0),
         (posted(limited(2_209)), 6, 0),
         (posted(with_x(20_000)), 6, 0),
         (look_up(0), 13, 0),
@@ -104,7 +104,7 @@ fn rate_records() -> Vec<Answered> {
         (posted(steep(10_000)), 0, 0),
         (turn(2), 0, 0),
         (look_up(150), 17, 0),
-        (posted(of_month(1)), 0, 0),
+        (posted(zero_sheet(1)), 0, 0),
         (look_up(10), 0, 0),
         (look_up(150), 0, 0),
     ]
@@ -146,7 +146,7 @@ pub fn dropped_records() -> Vec<Answered> {
         (post(&with_byte(ends_at_20(), 68, 51)), 2, 18),
         (posted(ends_at_20()), 0, 0),
         (look_up(150), 0, 0),
-        (posted(of_month(1)), 0, 0),
+        (posted(zero_sheet(1)), 0, 0),
     ]
 }
 
@@ -163,7 +163,7 @@ pub fn adjusted_records() -> Vec<Answered> {
 
 /// Each last record and both, and tails that are wrong.
 fn tail_records() -> Vec<Answered> {
-    let followed_by = |tail: &[u8]| post(&[&sheet_bytes(&of_month(1)), tail].concat());
+    let followed_by = |tail: &[u8]| post(&[&sheet_bytes(&zero_sheet(1)), tail].concat());
     vec![
         (followed_by(&[0x07, 0x00, 0x00]), 0, 0),
         (look_up(150), 0, 0),
@@ -202,8 +202,8 @@ fn adjusted_sheet_records() -> Vec<Answered> {
     let of_month_1 = |sheet: Sheet| posted(with_volumes(sheet, [1; 5]));
     vec![
         (posted(untraded()), 4, 0),
-        (posted(of_month(3)), 5, 0),
-        (posted(of_month(0)), 6, 0),
+        (posted(zero_sheet(3)), 5, 0),
+        (posted(zero_sheet(0)), 6, 0),
         (of_month_1(fall()), 7, 10),
         (of_month_1(flat(-2_000)), 8, 35),
         (of_month_1(with_rate(flat(3_000), 12, 12_000)), 9, 12),
@@ -216,7 +216,7 @@ fn adjusted_sheet_records() -> Vec<Answered> {
 fn adjusted_curve_records() -> Vec<Answered> {
     let posted = |sheet: Sheet| post(&sheet_bytes(&sheet));
     let at_0 = |limit| {
-        let sheet = adjusted(of_month(1), 0);
+        let sheet = adjusted(zero_sheet(1), 0);
         posted(Sheet { limit, ..sheet })
     };
     let near_2_u = |adjustment| adjusted(rising_beyond_20(), adjustment);
@@ -238,7 +238,7 @@ fn adjusted_curve_records() -> Vec<Answered> {
         // The plain curve comes first.
         (posted(narrow), 10, 11),
         (look_up(41), 0, 0),
-        (posted(of_month(1)), 0, 0),
+        (posted(zero_sheet(1)), 0, 0),
     ]
 }
 
@@ -258,14 +258,14 @@ fn aging_records() -> Vec<Answered> {
         (posted(limited(2_209)), 6, 0),
         (turn(4), 12, 0),
         (look_up(150), 16, 0),
-        (posted(of_month(1)), 0, 0),
+        (posted(zero_sheet(1)), 0, 0),
         (look_up(150), 16, 0),
-        (posted(of_month(2)), 0, 0),
+        (posted(zero_sheet(2)), 0, 0),
         (look_up(150), 0, 0),
         (turn(6), 0, 0),
         (look_up(150), 16, 0),
-        (posted(of_month(1)), 6, 0),
-        (posted(of_month(6)), 0, 0),
+        (posted(zero_sheet(1)), 6, 0),
+        (posted(zero_sheet(6)), 0, 0),
         (look_up(150), 0, 0),
         // Age comes before rates: a year without a high rate is 17 only while it is shown.
         (posted(steep_of_month(6)), 0, 0),
@@ -277,36 +277,22 @@ fn aging_records() -> Vec<Answered> {
         (look_up(10), 16, 0),
         (look_up(9), 16, 0),
         (look_up(151), 13, 0),
-        (posted(of_month(10)), 0, 0),
+        (posted(zero_sheet(10)), 0, 0),
         (look_up(150), 0, 0),
     ]
 }
 
-/// The zero sheet: month, rates and UFR 0, volumes 1, limit 100,000.
-fn zero() -> Sheet {
-    Sheet {
-        month: 0,
-        rates: [0; 17],
-        volumes: [1; 5],
-        ufr: 0,
-        limit: 100_000,
-        phase_in: None,
-        adjustment: None,
-    }
-}
-
-fn of_month(month: u16) -> Sheet {
-    Sheet { month, ..zero() }
-}
-
 fn limited(limit: u32) -> Sheet {
-    Sheet { limit, ..zero() }
+    Sheet {
+        limit,
+        ..zero_sheet(0)
+    }
 }
 
 fn with_x(x: u16) -> Sheet {
     Sheet {
         phase_in: Some(x),
-        ..zero()
+        ..zero_sheet(0)
     }
 }
 
@@ -320,14 +306,14 @@ fn adjusted(sheet: Sheet, adjustment: i16) -> Sheet {
 fn untraded() -> Sheet {
     Sheet {
         volumes: [0; 5],
-        ..zero()
+        ..zero_sheet(0)
     }
 }
 
 fn flat(rate: i16) -> Sheet {
     Sheet {
         rates: [rate; 17],
-        ..zero()
+        ..zero_sheet(0)
     }
 }
 
@@ -354,7 +340,7 @@ fn rising_beyond_20() -> Sheet {
 
 /// A sheet of month 1 whose quotes past 20 are all dropped.
 fn ends_at_20() -> Sheet {
-    with_volumes(zero(), [1, 0, 0, 0, 0])
+    with_volumes(zero_sheet(0), [1, 0, 0, 0, 0])
 }
 
 /// The sheet's bytes with another one in one place. The quote of maturity 25 has its kind at
@@ -367,7 +353,7 @@ fn with_byte(sheet: Sheet, at: usize, byte: u8) -> Vec<u8> {
 
 /// Factors that rise for nine years and fall below 0 in the tenth.
 fn fall() -> Sheet {
-    let mut sheet = with_rate(zero(), 10, 12_000);
+    let mut sheet = with_rate(zero_sheet(0), 10, 12_000);
     sheet.rates[..9].fill(-2_000);
     sheet
 }
@@ -375,7 +361,7 @@ fn fall() -> Sheet {
 /// The sheet of month 1 that has 11,111 from maturity 10 on. Year 10 by par is
 /// (100,000 × U - 11,111 × 9 × U) / 111,111.
 fn steep(ufr: u16) -> Sheet {
-    let sheet = with_rates_from(of_month(1), 10, 11_111);
+    let sheet = with_rates_from(zero_sheet(1), 10, 11_111);
     Sheet { ufr, ..sheet }
 }
 
@@ -386,14 +372,14 @@ fn steep_of_month(month: u16) -> Sheet {
 /// Years 1 to 7 are U, year 8 has the low 1,001,040,135, year 9 the low 867,154,445 and year
 /// 10 the low 976,562, each with a high one above.
 fn just_too_steep() -> Sheet {
-    let sheet = with_rate(with_rate(of_month(1), 8, -13), 9, 1_498);
+    let sheet = with_rate(with_rate(zero_sheet(1), 8, -13), 9, 1_498);
     with_rates_from(sheet, 10, 11_264)
 }
 
 /// Years 1 to 7 are U, year 8 is 999,840,003 to 999,840,004, year 9 is 903,135,625 to
 /// 903,135,626, year 10 is 976,563 to 976,565.
 fn just_not_too_steep() -> Sheet {
-    let sheet = with_rate(with_rate(of_month(1), 8, 2), 9, 1_088);
+    let sheet = with_rate(with_rate(zero_sheet(1), 8, 2), 9, 1_088);
     with_rates_from(sheet, 10, 11_220)
 }
 

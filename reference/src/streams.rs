@@ -296,6 +296,19 @@ fn highest_rate(annuity: Enclosure) -> i64 {
     HIGHEST_QUOTE.min(rate as i64)
 }
 
+/// The zero sheet of `month`: rates and UFR 0, volumes 1, limit 100,000.
+pub fn zero_sheet(month: u16) -> Sheet {
+    Sheet {
+        month,
+        rates: [0; 17],
+        volumes: [1; 5],
+        ufr: 0,
+        limit: LARGEST_LIMIT,
+        phase_in: None,
+        adjustment: None,
+    }
+}
+
 /// A sheet in the shape of the end of November 2020: its 20-year rate is near 0, so that its
 /// convergence factor follows X.
 pub fn low_rates(month: u16, phase_in: Option<u16>) -> Sheet {
