@@ -1,12 +1,12 @@
 -- Not a digit changed where nothing new is asked for. Where the sheet's factor is 10% the curve is the one that the table's weights
 -- give: so it is for a sheet without the phase-in's record, with 10,000 in it, or with a 20-year rate from 0.5% up. Where no volume
--- past 20 years is 0 the curve is the one that every quote gives.
+-- past 20 years is 0 the curve is the one that every quote gives. An adjustment leaves the plain curve as it is.
 use mathlib.Core.Path.{_≡_, refl, ap, subst, _∙_}
 use mathlib.Core.Bool.{Bool, true, false}
 use mathlib.Core.List.{List, _++_, map, append-nil}
 use Prim.Native.Nat.{ℕ, _+_, _-_, _≤_, _<_}
 use borrow.Author.Tests.{le-ltb, lt-ltb}
-use lib.IntN.{pos}
+use lib.IntN.{ℤ, pos}
 use lib.Dec.{ltb, lit≤, lit<}
 use lib.ListN.{length, take, drop, getD, replicate, length-drop}
 use Rattle.fraction.specs.Rounding.{U}
@@ -53,7 +53,26 @@ pub without-adjustment : (n : Numbers) → n .adjusts ≡ false → curvesOf n �
 unfolding curvesOf
 without-adjustment n e = rw e
 
--- with one the plain curve is the same, and its grounds come first
+-- another adjustment, or none
+abbrev pub withAdjustment : Numbers → Bool → ℤ → Numbers
+withAdjustment n adjusts a =
+    record {
+      month = n .month;
+      rates = n .rates;
+      volumes = n .volumes;
+      ultimate = n .ultimate;
+      limit = n .limit;
+      phaseIn = n .phaseIn;
+      adjusts = adjusts;
+      adjustment = a;
+    }
+
+-- it has no say in the plain curve and its grounds
+pub plain-untouched : (n : Numbers) (adjusts : Bool) (a : ℤ) → curveOf (withAdjustment n adjusts a) ≡ curveOf n
+unfolding curveOf extended factorOf
+plain-untouched n adjusts a = refl
+
+-- which come first
 pub plain-first : (n : Numbers) {g : Ground} → curveOf n ≡ refused g → curvesOf n ≡ refused g
 unfolding curvesOf
 plain-first n e = rw e
