@@ -25,6 +25,7 @@ asGround code.NoCurve = method.noCurve
 asGround code.BufferTooShort = method.bufferTooShort
 asGround code.AgeAboveLimit = method.ageAboveLimit
 asGround code.NoHighRate = method.noHighRate
+asGround code.NoPostLeft = method.noPostLeft
 
 abbrev pub asOutcome : {A : Type 0} → Verdict → A → Outcome A
 asOutcome Passed a = done a

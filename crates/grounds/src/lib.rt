@@ -22,6 +22,7 @@ pub enum Ground {
     BufferTooShort,
     AgeAboveLimit,
     NoHighRate,
+    NoPostLeft,
 }
 
 pub enum Verdict {
@@ -50,6 +51,7 @@ fn ground_number(g: Ground) -> u64
         Ground::BufferTooShort => 15,
         Ground::AgeAboveLimit => 16,
         Ground::NoHighRate => 17,
+        Ground::NoPostLeft => 18,
     }
 }
 

@@ -13,7 +13,7 @@ use Rattle.method.specs.Units.{Pair, SignedPair}
 use Rattle.method.specs.Grounds.{Ground, numberOf, placeOf, Outcome, refused, done, _>>=_, demand}
 use Rattle.method.specs.Grounds.{wrongLength, wrongRecord, outOfRange, noVolume, afterToldMonth, beforeStandingCurve, lowBelowOne}
 use Rattle.method.specs.Grounds.{highAboveLimit, endFailsTest, bandTooWide, monthAboveLast, monthBeforeTold}
-use Rattle.method.specs.Grounds.{yearOutside, noCurve, bufferTooShort, ageAboveLimit, noHighRate}
+use Rattle.method.specs.Grounds.{yearOutside, noCurve, bufferTooShort, ageAboveLimit, noHighRate, noPostLeft}
 use Rattle.method.specs.Sheet.{layoutOf, sizeOf, Slot, slotsOf, firstFailure, rightRecord, inRange, total, Numbers, sheetNumbers, readSheet, maturities}
 use Rattle.method.specs.Quotes.{annuity, parLow, parHigh, trial, highestFactor, nextYear, quotedYear, insideYears, Bootstrap, gapYears}
 use Rattle.method.specs.Quotes.{Quote, parYear, yearsTo, bootstrapFrom, quotesOf, bootstrap}
@@ -216,3 +216,4 @@ number-small noCurve = omega arith
 number-small bufferTooShort = omega arith
 number-small ageAboveLimit = omega arith
 number-small noHighRate = omega arith
+number-small noPostLeft = omega arith

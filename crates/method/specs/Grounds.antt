@@ -20,6 +20,7 @@ pub data Ground : Type 0 where
   bufferTooShort : Ground
   ageAboveLimit : Ground
   noHighRate : Ground
+  noPostLeft : Ground
 
 abbrev pub numberOf : Ground → ℕ
 numberOf wrongLength = 1
@@ -39,6 +40,7 @@ numberOf noCurve = 14
 numberOf bufferTooShort = 15
 numberOf ageAboveLimit = 16
 numberOf noHighRate = 17
+numberOf noPostLeft = 18
 
 -- a record from 1, a year, or 0 where none is named
 abbrev pub placeOf : Ground → ℕ
@@ -59,6 +61,7 @@ placeOf noCurve = 0
 placeOf bufferTooShort = 0
 placeOf ageAboveLimit = 0
 placeOf noHighRate = 0
+placeOf noPostLeft = 0
 
 -- ---- a result, or the first ground that applies
 
