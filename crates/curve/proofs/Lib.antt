@@ -1,4 +1,3 @@
 pub mod TooWide
-pub mod Copying
 pub mod Laws
 pub mod Extending

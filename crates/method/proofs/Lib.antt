@@ -35,6 +35,7 @@ pub mod Used
 pub mod Dropped
 pub mod Zips
 pub mod Filling
+pub mod Copying
 pub mod Enclosure
 pub mod Slots
 pub mod Layouts

@@ -7,7 +7,7 @@ use lib.ListN.{length, replicate}
 use borrow.Author.Needs.{needs}
 use Rattle.bootstrap.specs.declared.Liquid.{Liquid}
 use Rattle.extrapolation.specs.declared.Years.{Years}
-use Rattle.curve.proofs.Copying.{Copied, copied-none, copied-more, copied-all}
+use Rattle.method.proofs.Copying.{Copied, copied-none, copied-more, copied-all}
 use Rattle.curve.proofs.first_years.Statement.{statement}
 use Rattle.curve.proofs.first_years.Tie as tie
 use Rattle.curve.proofs.first_years.Reads as reads
