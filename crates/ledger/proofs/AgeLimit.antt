@@ -2,7 +2,7 @@
 -- limits hold the same curve at the same month, so that openCurve alone can tell them apart.
 use mathlib.Core.Path.{_≡_, refl, ap, sym, _∙_}
 use mathlib.Core.Bool.{Bool, true, false, _&&_}
-use mathlib.Core.List.{List}
+use mathlib.Core.List.{List, [], _∷_}
 use mathlib.Core.Logic.{_⊎_, inl, inr}
 use Prim.Native.Nat.{ℕ, _+_, _-_, _≤_, _<_, min}
 use native.Mathlib.Omega.{arith}
@@ -15,7 +15,7 @@ use Rattle.method.specs.Curve.{Curve, Held, none, some}
 use Rattle.method.proofs.Outcome.{split, bind-done, demand-done, done-injective, refused-not-done, both-true}
 use Rattle.zero_rates.specs.Rates.{greatestMultiplier, reaches, zeroRates}
 use Rattle.ledger.specs.Answers.{Finding, answerNumber}
-use Rattle.ledger.specs.Book.{Book, postOutcome, post, withTold, turnOutcome, turn}
+use Rattle.ledger.specs.Book.{Book, postOutcome, post, withTold, turnOutcome, turn, withdraw}
 use Rattle.ledger.specs.Book.{named, young, openCurve, yearInside, bandAt, lookIn, pageOutcome, pagedBy, pageIn}
 use Rattle.ledger.specs.Calls.{Question, lookAt, pageInto, Call, asks, answered, answerOf}
 use Rattle.ledger.specs.Count.{Count, count}
@@ -23,7 +23,7 @@ use Rattle.ledger.specs.Demands.{Closes, TurnCloses, OnlyCloses}
 use Rattle.ledger.proofs.Count.{bookOf}
 use Rattle.ledger.proofs.Asked.{closed-old, look-closed}
 use Rattle.ledger.proofs.Theorem.{run-is, run-sound}
-use Rattle.ledger.proofs.FirstGround.{posted-answer, turned-answer}
+use Rattle.ledger.proofs.FirstGround.{posted-answer, turned-answer, withdrawn}
 
 -- ---- a turn closes a curve
 
@@ -134,18 +134,26 @@ module _ (told : ℕ) (m : told ≤ 2_399) where
       go none long over e = omega (arith, e)
       go (some c) long over e = written long (over c) (rw (largest-opens c) at e)
 
--- whatever the limit, a post and a turn are answered by the told month and the curve alone
+-- whatever the limit, a post, a turn and a withdrawal are answered by the told month, the curve and the ways back alone
 same-posts-of : (limit : ℕ) (c : Count) (s : List ℕ) → post (bookOf limit c) s .answer ≡ post (bookOf 2_399 c) s .answer
 unfolding post postOutcome
 same-posts-of limit c s =
     let o = postOutcome (bookOf limit c) s in
-    posted-answer (bookOf limit c) o ∙ sym (posted-answer (bookOf 2_399 c) o)
+    posted-answer (bookOf limit c) s o ∙ sym (posted-answer (bookOf 2_399 c) s o)
 
 same-turns-of : (limit : ℕ) (c : Count) (m : ℕ) → turn (bookOf limit c) m .answer ≡ turn (bookOf 2_399 c) m .answer
 unfolding turn turnOutcome
 same-turns-of limit c m =
     let o = turnOutcome (bookOf limit c) m in
     turned-answer (bookOf limit c) o ∙ sym (turned-answer (bookOf 2_399 c) o)
+
+same-withdrawals-of : (limit : ℕ) (c : Count) → withdraw (bookOf limit c) .answer ≡ withdraw (bookOf 2_399 c) .answer
+unfolding withdraw
+same-withdrawals-of limit c = go (bookOf limit c .history .below)
+  where
+    go : (ks : List (Held (List ℕ))) → withdrawn (bookOf limit c) ks .answer ≡ withdrawn (bookOf 2_399 c) ks .answer
+    go [] = refl
+    go (k ∷ ks) = refl
 
 question-closed-or-same : (limit : ℕ) (c : Count) → c .told ≤ 2_399 → (q : Question) →
     (answerOf (bookOf limit c) (asks q) .number ≡ 16) ⊎ (answered (bookOf limit c) q ≡ answered (bookOf 2_399 c) q)
@@ -160,9 +168,11 @@ pub only-closes : (limit : ℕ) (cs : List Call) → OnlyCloses limit cs
 only-closes limit cs =
     record {
       same-standing = rw (run-is limit cs, run-is 2_399 cs);
+      same-history = rw (run-is limit cs, run-is 2_399 cs);
       same-told = rw (run-is limit cs, run-is 2_399 cs);
       same-posts = rw (run-is limit cs, run-is 2_399 cs) (same-posts-of (min limit 2_399) (count cs));
       same-turns = rw (run-is limit cs, run-is 2_399 cs) (same-turns-of (min limit 2_399) (count cs));
-      closed-or-same = rw (run-is limit cs, run-is 2_399 cs) (question-closed-or-same (min limit 2_399) (count cs) (run-sound cs .0));
-      largest-never-closes = rw (run-is 2_399 cs) (question-never-closed (count cs) (run-sound cs .0));
+      same-withdrawals = rw (run-is limit cs, run-is 2_399 cs) (same-withdrawals-of (min limit 2_399) (count cs));
+      closed-or-same = rw (run-is limit cs, run-is 2_399 cs) (question-closed-or-same (min limit 2_399) (count cs) (run-sound cs .month));
+      largest-never-closes = rw (run-is 2_399 cs) (question-never-closed (count cs) (run-sound cs .month));
     }

@@ -2,10 +2,11 @@
 use mathlib.Core.Path.{_≡_, refl, ap, sym, subst, _∙_}
 use mathlib.Core.Bool.{Bool, true, false, _&&_}
 use mathlib.Core.List.{List, [], _∷_}
-use Prim.Native.Nat.{ℕ, _≤_}
+use Prim.Native.Nat.{ℕ, zero, suc, _+_, _-_, _≤_, min}
 use native.Mathlib.Omega.{arith}
-use borrow.Author.Tests.{leb-true}
-use lib.Dec.{T, leb}
+use borrow.Author.Tests.{leb-true, lt-ltb}
+use lib.Dec.{T, leb, ltb}
+use lib.ListN.{length, drop}
 use Rattle.method.specs.Grounds.{afterToldMonth, beforeStandingCurve, Outcome, refused, done, _>>=_, demand}
 use Rattle.method.specs.Sheet.{Numbers, sheetNumbers, readSheet}
 use Rattle.method.specs.Units.{Which, plain, adjusted}
@@ -13,12 +14,13 @@ use Rattle.method.specs.Curve.{Curve, Held, none, some, Curves, curveNamed, adj
 use Rattle.method.proofs.Enclosure.{Worked, worked, enclosure}
 use Rattle.method.proofs.Reading.{read-passes}
 use Rattle.method.proofs.Outcome.{split, bind-done, demand-done, done-injective}
-use Rattle.ledger.specs.Book.{Standing, Book, notBefore, postOutcome, post, turnOutcome, turn}
-use Rattle.ledger.specs.Calls.{Call, postOf, turnTo, asks, after, runFrom}
-use Rattle.ledger.specs.Count.{LastSheet, unposted, posted, Count, monthOf, hasAdjustment, carries, isDone}
-use Rattle.ledger.specs.Count.{works, inOrder, acceptsSheet, acceptsMonth, counted, countFrom, typed}
-use Rattle.ledger.specs.Demands.{sheetAfter, toldAfter}
+use Rattle.ledger.specs.Book.{Book, notBefore, postOutcome, post, turnOutcome, turn, standingOf, withdraw}
+use Rattle.ledger.specs.Calls.{Call, postOf, turnTo, withdrawal, asks, after, runFrom}
+use Rattle.ledger.specs.Count.{Count, latest, lastSheet, monthOf, hasAdjustment, carries, isDone}
+use Rattle.ledger.specs.Count.{works, inOrder, acceptsSheet, acceptsMonth, acceptsWithdrawal, counted, countFrom, typed}
+use Rattle.ledger.specs.Demands.{postsAfter, postsLeft, toldAfter}
 use Rattle.ledger.proofs.Typed.{typed-is}
+use Rattle.ledger.proofs.Ways.{historyOf, posted-history}
 
 -- ---- a sheet that was read has the numbers of its bytes
 
@@ -41,27 +43,24 @@ outcome-answer b s e =
 
 -- ---- the book that a count stands for
 
-abbrev pub standingIn : Outcome Curves → Standing
-standingIn (refused g) = none
-standingIn (done cs) = some cs
-
-abbrev pub standingOf : LastSheet → Standing
-standingOf unposted = none
-standingOf (posted s) = standingIn (answer s)
-
-abbrev pub bookWith : ℕ → ℕ → LastSheet → Book
-bookWith limit told h = record { ageLimit = limit; told = told; standing = standingOf h }
-
 abbrev pub bookOf : ℕ → Count → Book
-bookOf limit c = bookWith limit (c .told) (c .sheet)
+bookOf limit c =
+    record { ageLimit = limit; told = c .told; standing = standingOf (lastSheet c); history = historyOf (c .posts) (c .depth) }
 
--- the last sheet works, and its month is not after the told one, which is a month that can be told
-abbrev pub Sound : ℕ → LastSheet → Type 0
-Sound told unposted = Unit {0}
-Sound told (posted s) = (works s ≡ true) × (monthOf s ≤ told)
+-- each sheet works, and its month is not after the told one
+abbrev pub Sound : ℕ → List ℕ → Type 0
+Sound told s = (works s ≡ true) × (monthOf s ≤ told)
 
-abbrev pub SoundCount : Count → Type 0
-SoundCount c = (c .told ≤ 2_399) × Sound (c .told) (c .sheet)
+abbrev pub AllSound : ℕ → List (List ℕ) → Type 0
+AllSound told [] = Unit {0}
+AllSound told (s ∷ ss) = Sound told s × AllSound told ss
+
+-- the told month is one that can be told, and no more posts can be withdrawn than there are, nor more than three
+pub record SoundCount (c : Count) : Type 0 where
+  pub month : c .told ≤ 2_399
+  pub sheets : AllSound (c .told) (c .posts)
+  pub enough : c .depth ≤ length (c .posts)
+  pub three : c .depth ≤ 3
 
 and-left : (a b : Bool) → (a && b) ≡ true → a ≡ true
 and-left true b e = refl
@@ -71,19 +70,51 @@ and-right : (a b : Bool) → (a && b) ≡ true → b ≡ true
 and-right true b e = e
 and-right false b e = absurd (subst T (sym e) tt)
 
-later-sound : (told m : ℕ) (h : LastSheet) → Sound told h → told ≤ m → Sound m h
-later-sound told m unposted g l = tt
-later-sound told m (posted s) g l = (g .0, omega (arith, g .1))
+later-sound : (told m : ℕ) (ss : List (List ℕ)) → AllSound told ss → told ≤ m → AllSound m ss
+later-sound told m [] g l = tt
+later-sound told m (s ∷ ss) g l = ((g .0 .0, omega (arith, g .0 .1)), later-sound told m ss (g .1) l)
+
+-- without the latest
+rest-sound : (told : ℕ) (ss : List (List ℕ)) → AllSound told ss → AllSound told (drop 1 ss)
+rest-sound told [] g = tt
+rest-sound told (s ∷ ss) g = g .1
+
+rest-length : (ss : List (List ℕ)) → length (drop 1 ss) ≡ length ss - 1
+rest-length [] = refl
+rest-length (s ∷ ss) = omega arith
 
 pub sound : (c : Count) → SoundCount c → (d : Call) → SoundCount (counted c d)
 unfolding acceptsSheet acceptsMonth
 sound c g (postOf s) =
     split (acceptsSheet c s)
-    (λ q. rw q (g .0, (and-left (works s) _ q, leb-true _ _ (and-left (leb (monthOf s) (c .told)) _ (and-right (works s) _ q)))))
+    (λ q. rw q
+    (let in-time = leb-true _ _ (and-left (leb (monthOf s) (c .told)) _ (and-right (works s) _ q)) in
+    record {
+      month = g .month;
+      sheets = ((and-left (works s) _ q, in-time), g .sheets);
+      enough = omega (arith, g .enough);
+      three = omega arith;
+    }))
     (λ q. rw q g)
 sound c g (turnTo m) =
     split (acceptsMonth c m)
-    (λ q. rw q (leb-true _ _ (and-left (leb m 2_399) _ q), later-sound (c .told) m (c .sheet) (g .1) (leb-true _ _ (and-right (leb m 2_399) _ q))))
+    (λ q. rw q
+    (record {
+      month = leb-true _ _ (and-left (leb m 2_399) _ q);
+      sheets = later-sound (c .told) m (c .posts) (g .sheets) (leb-true _ _ (and-right (leb m 2_399) _ q));
+      enough = g .enough;
+      three = g .three;
+    }))
+    (λ q. rw q g)
+sound c g withdrawal =
+    split (acceptsWithdrawal c)
+    (λ q. rw q
+    (record {
+      month = g .month;
+      sheets = rest-sound (c .told) (c .posts) (g .sheets);
+      enough = omega (arith, g .enough, rest-length (c .posts));
+      three = omega (arith, g .three);
+    }))
     (λ q. rw q g)
 sound c g (asks q) = g
 
@@ -156,9 +187,9 @@ same-tests : (o : Outcome Curves) (five six five′ six′ : Bool) → five′ �
     (isDone o && (five && six)) ≡ isDone (demand five′ afterToldMonth >>= (λ _. demand six′ beforeStandingCurve >>= (λ _. o)))
 same-tests o five six five′ six′ p q = rw (p, q) (in-any-order o five six)
 
-in-order : (told : ℕ) (h : LastSheet) → Sound told h → (m : ℕ) → notBefore (standingOf h) m ≡ inOrder h m
-in-order told unposted g m = refl
-in-order told (posted s) g m = let a = works-done s (g .0) in rw (a .1, answer-month s (a .1))
+in-order : (told : ℕ) (ss : List (List ℕ)) → AllSound told ss → (m : ℕ) → notBefore (standingOf (latest ss)) m ≡ inOrder (latest ss) m
+in-order told [] g m = refl
+in-order told (s ∷ ss) g m = let a = works-done s (g .0 .0) in rw (a .1, answer-month s (a .1))
 
 -- the count accepts exactly what the book accepts
 pub accepts-post : (limit : ℕ) (c : Count) → SoundCount c → (s : List ℕ) → acceptsSheet c s ≡ isDone (postOutcome (bookOf limit c) s)
@@ -171,28 +202,28 @@ accepts-post limit c g s = go (readSheet s) refl
         let m = read-month s e in
         rw e
         (same-tests (curvesOf n) _ _ _ _ (ap (λ (k : ℕ). leb k (c .told)) m)
-        (ap (λ (k : ℕ). notBefore (standingOf (c .sheet)) k) m ∙ in-order (c .told) (c .sheet) (g .1) (monthOf s)))
+        (ap (λ (k : ℕ). notBefore (standingOf (lastSheet c)) k) m ∙ in-order (c .told) (c .posts) (g .sheets) (monthOf s)))
 
 -- the book, and what the caller saw
 record Moved (limit : ℕ) (c : Count) (s : List ℕ) : Type 0 where
   book : post (bookOf limit c) s .book ≡ bookOf limit (counted c (postOf s))
-  sheet : sheetAfter (post (bookOf limit c) s .answer) s (c .sheet) ≡ counted c (postOf s) .sheet
+  sheets : postsAfter (post (bookOf limit c) s .answer) s (c .posts) ≡ counted c (postOf s) .posts
 
 post-moves : (limit : ℕ) (c : Count) → SoundCount c → (s : List ℕ) → Moved limit c s
 unfolding post
 post-moves limit c g s = go (postOutcome (bookOf limit c) s) refl
   where
     go : (o : Outcome Curves) → postOutcome (bookOf limit c) s ≡ o → Moved limit c s
-    go (refused x) e = record { book = rw (accepts-post limit c g s, e); sheet = rw (accepts-post limit c g s, e) }
+    go (refused x) e = record { book = rw (accepts-post limit c g s, e); sheets = rw (accepts-post limit c g s, e) }
     go (done k) e =
         record {
-          book = rw (accepts-post limit c g s, e, outcome-answer (bookOf limit c) s e);
-          sheet = rw (accepts-post limit c g s, e);
+          book = rw (accepts-post limit c g s, e, outcome-answer (bookOf limit c) s e, posted-history s (c .posts) (c .depth));
+          sheets = rw (accepts-post limit c g s, e);
         }
 
-pub sheet-step :
-    (limit : ℕ) (c : Count) → SoundCount c → (s : List ℕ) → sheetAfter (post (bookOf limit c) s .answer) s (c .sheet) ≡ counted c (postOf s) .sheet
-sheet-step limit c g s = post-moves limit c g s .sheet
+pub posts-step :
+    (limit : ℕ) (c : Count) → SoundCount c → (s : List ℕ) → postsAfter (post (bookOf limit c) s .answer) s (c .posts) ≡ counted c (postOf s) .posts
+posts-step limit c g s = post-moves limit c g s .sheets
 
 -- ---- turn
 
@@ -204,11 +235,36 @@ pub told-step : (limit : ℕ) (c : Count) (m : ℕ) → toldAfter (turn (bookOf 
 unfolding turn turnOutcome acceptsMonth
 told-step limit c m = split (leb m 2_399) (λ p. split (leb (c .told) m) (λ q. rw (p, q)) (λ q. rw (p, q))) (λ p. rw p)
 
+-- ---- withdrawal: there is a way back exactly where the depth is above 0, and it leads to the sheet below
+
+record Withdrawn (limit : ℕ) (c : Count) : Type 0 where
+  book : withdraw (bookOf limit c) .book ≡ bookOf limit (counted c withdrawal)
+  sheets : postsLeft (withdraw (bookOf limit c) .answer) (c .posts) ≡ counted c withdrawal .posts
+
+withdrawn-from : (limit told : ℕ) (ss : List (List ℕ)) (depth : ℕ) → depth ≤ length ss → Withdrawn limit (record { told = told; posts = ss; depth = depth })
+unfolding withdraw acceptsWithdrawal
+withdrawn-from limit told ss zero h = record { book = refl; sheets = refl }
+withdrawn-from limit told [] (suc depth) h = absurd (omega (arith, h))
+withdrawn-from limit told (s ∷ ss) (suc depth) h =
+    let deep : ltb 0 (suc depth) ≡ true = lt-ltb 0 (suc depth) (omega arith) in
+    let less : suc depth - 1 ≡ depth = omega arith in
+    let counts : counted (record { told = told; posts = s ∷ ss; depth = suc depth }) withdrawal ≡ record { told = told; posts = ss; depth = depth } =
+    rw (deep, less) in
+    record { book = sym (ap (bookOf limit) counts); sheets = sym (ap (λ (c : Count). c .posts) counts) }
+
+withdraw-moves : (limit : ℕ) (c : Count) → SoundCount c → Withdrawn limit c
+withdraw-moves limit c g = withdrawn-from limit (c .told) (c .posts) (c .depth) (g .enough)
+
+pub posts-left-step :
+    (limit : ℕ) (c : Count) → SoundCount c → postsLeft (withdraw (bookOf limit c) .answer) (c .posts) ≡ counted c withdrawal .posts
+posts-left-step limit c g = withdraw-moves limit c g .sheets
+
 -- ---- every call, and every list of them
 
 pub step : (limit : ℕ) (c : Count) → SoundCount c → (d : Call) → after (bookOf limit c) d ≡ bookOf limit (counted c d)
 step limit c g (postOf s) = post-moves limit c g s .book
 step limit c g (turnTo m) = turn-step limit c m
+step limit c g withdrawal = withdraw-moves limit c g .book
 step limit c g (asks q) = refl
 
 pub steps : (limit : ℕ) (c : Count) → SoundCount c → (ds : List Call) → runFrom (bookOf limit c) ds ≡ bookOf limit (countFrom c ds)

@@ -10,7 +10,7 @@ use lib.ListN.{length, drop}
 use lib.IntN.{pos}
 use Rattle.fraction.specs.Rounding.{U}
 use Rattle.method.specs.Grounds.{Ground, wrongLength, wrongRecord, outOfRange, noVolume, afterToldMonth, beforeStandingCurve, monthAboveLast}
-use Rattle.method.specs.Grounds.{monthBeforeTold, yearOutside, noCurve, bufferTooShort, ageAboveLimit, noHighRate}
+use Rattle.method.specs.Grounds.{monthBeforeTold, yearOutside, noCurve, bufferTooShort, ageAboveLimit, noHighRate, noPostLeft}
 use Rattle.method.specs.Grounds.{Outcome, refused, done, _>>=_, demand}
 use Rattle.method.specs.Sheet.{Numbers, readSheet, sheetNumbers, layoutOf, sizeOf, slotsOf, firstFailure, rightRecord, inRange, total}
 use Rattle.method.specs.Units.{Which}
@@ -22,10 +22,11 @@ use Rattle.zero_rates.specs.Rates.{greatestMultiplier, compound, reaches, rates
 use Rattle.zero_rates.proofs.Compounding.{grown-is}
 use Rattle.ledger.specs.Answers.{finding}
 use Rattle.ledger.specs.Page.{pageBytes}
+use Rattle.ledger.specs.History.{wayBack}
 use Rattle.ledger.specs.Book.{Standing, Book, Booked, booked, notBefore, postOutcome, withCurves, post, turnOutcome, withTold, turn}
-use Rattle.ledger.specs.Book.{named, openCurve, age, bandAt, lookIn, lookUp, pageOutcome, pagedBy, page}
+use Rattle.ledger.specs.Book.{withHistory, withdraw, named, openCurve, age, bandAt, lookIn, lookUp, pageOutcome, pagedBy, page}
 use Rattle.ledger.specs.Demands.{Applies, when, first, standsAfter, vacant, tooOld, beyondReach, foundIn, monthIn, Demand1}
-use Rattle.ledger.specs.Demands.{postGrounds, turnGrounds, lookGrounds, pageGrounds}
+use Rattle.ledger.specs.Demands.{postGrounds, turnGrounds, withdrawGrounds, lookGrounds, pageGrounds, turnedTo}
 use Rattle.ledger.proofs.Asked.{refusal-kept, page-refused}
 
 -- a demand in its turn is a ground that applies where its test fails
@@ -84,14 +85,14 @@ outcome-first b s =
     rw (none-traded (total (n .volumes)), not-at-most (b .told) (n .month), before-standing (b .standing) (n .month))
     (worked ∙ ap (λ (right : Bool). first (when (not right) wrongLength ∷ later) o) (any-length s))
 
-booked-refused : {A : Type 0} (b : Book) (changed : A → Book) (month : A → ℕ) (o : Outcome A) (g : Ground) →
-    booked b changed month o .answer ≡ refused g → booked b changed month o .book ≡ b
-booked-refused b changed month (refused x) g e = refl
-booked-refused b changed month (done a) g e = absurd (refusal-kept {a = done (month a)} refl e)
+booked-refused : {A B : Type 0} (b : Book) (changed : A → Book) (said : A → B) (o : Outcome A) (g : Ground) →
+    booked b changed said o .answer ≡ refused g → booked b changed said o .book ≡ b
+booked-refused b changed said (refused x) g e = refl
+booked-refused b changed said (done a) g e = absurd (refusal-kept {a = done (said a)} refl e)
 
-pub posted-answer : (b : Book) (o : Outcome Curves) → booked b (withCurves b) (λ c. c .plain .month) o .answer ≡ monthIn o
-posted-answer b (refused g) = refl
-posted-answer b (done c) = refl
+pub posted-answer : (b : Book) (s : List ℕ) (o : Outcome Curves) → booked b (withCurves b s) (λ c. c .plain .month) o .answer ≡ monthIn o
+posted-answer b s (refused g) = refl
+posted-answer b s (done c) = refl
 
 pub turned-answer : (b : Book) (o : Outcome ℕ) → booked b (withTold b) (λ m. m) o .answer ≡ o
 turned-answer b (refused g) = refl
@@ -170,27 +171,50 @@ page-first-is b w l = rw (not-at-most (length l) 1_505) (go (named w (b .standin
     go (some c) long = rw (not-at-most (b .ageLimit) (age (b .told) c)) (by-tests c (leb (age (b .told) c) (b .ageLimit)) long)
 
 -- by its two tests
-abbrev turned : Book → ℕ → Bool → Bool → Booked
+abbrev turned : Book → ℕ → Bool → Bool → Booked ℕ
 turned b m p q = booked b (withTold b) (λ m. m) (demand p monthAboveLast >>= (λ _. demand q monthBeforeTold >>= (λ _. done m)))
 
-turned-told : (b : Book) (m k : ℕ) → turn b m .answer ≡ done k → turn b m .book ≡ record { ageLimit = b .ageLimit; told = m; standing = b .standing }
+turned-told : (b : Book) (m k : ℕ) → turn b m .answer ≡ done k → turn b m .book ≡ turnedTo b m
 unfolding turn turnOutcome
 turned-told b m k e = go (leb m 2_399) (leb (b .told) m) e
   where
-    go : (p q : Bool) → turned b m p q .answer ≡ done k → turned b m p q .book ≡ record { ageLimit = b .ageLimit; told = m; standing = b .standing }
+    go : (p q : Bool) → turned b m p q .answer ≡ done k → turned b m p q .book ≡ turnedTo b m
     go true true e = refl
     go true false e = absurd (refusal-kept e refl)
     go false q e = absurd (refusal-kept e refl)
 
+-- a withdrawal, by the ways back
+abbrev pub withdrawn : Book → List (Held (List ℕ)) → Booked (Unit {0})
+withdrawn b ks = booked b (withHistory b) (λ h. tt) (wayBack ks)
+
+withdraw-first-is : (b : Book) → withdraw b .answer ≡ first (withdrawGrounds b) (done tt)
+unfolding withdraw withdrawGrounds
+withdraw-first-is b = go (b .history .below)
+  where
+    go : (ks : List (Held (List ℕ))) → withdrawn b ks .answer ≡ first (when (eqb (length ks) 0) noPostLeft ∷ []) (done tt)
+    go [] = refl
+    go (k ∷ ks) = rw (eqb·suc-zero (length ks))
+
+withdrawn-told : (b : Book) → withdraw b .book .told ≡ b .told
+unfolding withdraw
+withdrawn-told b = go (b .history .below)
+  where
+    go : (ks : List (Held (List ℕ))) → withdrawn b ks .book .told ≡ b .told
+    go [] = refl
+    go (k ∷ ks) = refl
+
 pub demand-1 : (b : Book) → Demand1 b
-unfolding post turn
+unfolding post turn withdraw
 demand-1 b =
     record {
-      post-first = λ s. posted-answer b (postOutcome b s) ∙ ap monthIn (outcome-first b s);
-      post-refused = λ s g e. booked-refused b (withCurves b) (λ c. c .plain .month) (postOutcome b s) g e;
+      post-first = λ s. posted-answer b s (postOutcome b s) ∙ ap monthIn (outcome-first b s);
+      post-refused = λ s g e. booked-refused b (withCurves b s) (λ c. c .plain .month) (postOutcome b s) g e;
       turn-first = λ m. turned-answer b (turnOutcome b m) ∙ turn-outcome-first b m;
       turn-refused = λ m g e. booked-refused b (withTold b) (λ m. m) (turnOutcome b m) g e;
       turn-told = turned-told b;
+      withdraw-first = withdraw-first-is b;
+      withdraw-refused = λ g e. booked-refused b (withHistory b) (λ h. tt) (wayBack (b .history .below)) g e;
+      withdraw-told = withdrawn-told b;
       look-first = look-first-is b;
       page-first = page-first-is b;
       page-refused = page-refused b;

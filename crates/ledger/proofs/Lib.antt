@@ -1,10 +1,11 @@
 pub mod Typed
 pub mod PageLaws
+pub mod Ways
 pub mod Count
 pub mod Asked
 pub mod Theorem
+pub mod Withdrawing
 pub mod FirstGround
 pub mod AgeLimit
 pub mod Stored
 pub mod Places
-pub mod Examples

@@ -1,5 +1,5 @@
 -- The place that any call is answered is at most 150, for every book: only a post's grounds name one.
-use mathlib.Core.List.{List}
+use mathlib.Core.List.{List, [], _∷_}
 use Prim.Native.Nat.{ℕ, _≤_}
 use native.Mathlib.Omega.{arith}
 use lib.Dec.{leb}
@@ -13,15 +13,16 @@ use Rattle.method.specs.Enclosure.{lowOf}
 use Rattle.zero_rates.specs.Rates.{greatestMultiplier, reaches, zeroRates}
 use Rattle.ledger.specs.Answers.{answerPlace}
 use Rattle.ledger.specs.Page.{pageLength}
-use Rattle.ledger.specs.Book.{Book, booked, notBefore, postOutcome, post, lastMonth, turnOutcome, turn}
+use Rattle.ledger.specs.History.{wayBack}
+use Rattle.ledger.specs.Book.{Book, booked, notBefore, postOutcome, post, lastMonth, turnOutcome, turn, withdraw}
 use Rattle.ledger.specs.Book.{named, young, openCurve, yearInside, bandAt, lookIn, lookUp, pageOutcome, pagedBy, page}
-use Rattle.ledger.specs.Calls.{Call, postOf, turnTo, asks, lookAt, pageInto, answerOf}
+use Rattle.ledger.specs.Calls.{Call, postOf, turnTo, withdrawal, asks, lookAt, pageInto, answerOf}
 
 -- a refusal is answered as it is, and an accepted call at place 0
-booked-place : {A : Type 0} {m : ℕ} (b : Book) (changed : A → Book) (month : A → ℕ) (o : Outcome A) →
-    place o ≤ m → answerPlace (booked b changed month o .answer) ≤ m
-booked-place b changed month (refused g) h = h
-booked-place b changed month (done a) h = h
+booked-place : {A B : Type 0} {m : ℕ} (b : Book) (changed : A → Book) (said : A → B) (o : Outcome A) →
+    place o ≤ m → answerPlace (booked b changed said o .answer) ≤ m
+booked-place b changed said (refused g) h = h
+booked-place b changed said (done a) h = h
 
 paged-place : {m : ℕ} (l : List ℕ) (o : Outcome (List ℕ)) → place o ≤ m → answerPlace (pagedBy l o .answer) ≤ m
 paged-place l (refused g) h = h
@@ -37,13 +38,21 @@ post-place b s =
     λ n e. demand-place (leb (n .month) (b .told)) _ _ (omega arith)
     (demand-place (notBefore (b .standing) (n .month)) _ _ (omega arith) (curves-place n)))
 
--- ---- the other calls: 11 to 17 have place 0
+-- ---- the other calls: 11 to 18 have place 0
 
 turn-place : (b : Book) (m : ℕ) → answerPlace (turn b m .answer) ≤ 0
 unfolding turn turnOutcome
 turn-place b m =
     booked-place b _ _ (turnOutcome b m)
     (demand-place (leb m lastMonth) _ _ (omega arith) (demand-place (leb (b .told) m) _ _ (omega arith) (omega arith)))
+
+withdraw-place : (b : Book) → answerPlace (withdraw b .answer) ≤ 0
+unfolding withdraw
+withdraw-place b = booked-place b _ _ (wayBack (b .history .below)) (go (b .history .below))
+  where
+    go : (ks : List (Held (List ℕ))) → place (wayBack ks) ≤ 0
+    go [] = omega arith
+    go (k ∷ ks) = omega arith
 
 open-place : (s : Held Curve) (told limit : ℕ) → place (openCurve s told limit) ≤ 0
 open-place none told limit = omega arith
@@ -69,5 +78,6 @@ page-place b w l =
 pub answer-place : (b : Book) (c : Call) → answerOf b c .place ≤ 150
 answer-place b (postOf s) = post-place b s
 answer-place b (turnTo m) = omega (arith, turn-place b m)
+answer-place b withdrawal = omega (arith, withdraw-place b)
 answer-place b (asks (lookAt w y)) = omega (arith, look-place b w y)
 answer-place b (asks (pageInto w l)) = omega (arith, page-place b w l)

@@ -1,18 +1,19 @@
 -- Demand 2: what a post accepts and stores, and what a page carries.
-use mathlib.Core.Path.{_≡_, refl}
+use mathlib.Core.Path.{_≡_, refl, ap, _∙_}
 use mathlib.Core.Bool.{true}
-use mathlib.Core.List.{List}
+use mathlib.Core.List.{List, _∷_}
 use Prim.Native.Nat.{ℕ, _≤_}
 use native.Mathlib.Omega.{arith}
 use borrow.Author.Tests.{leb-true, le-leb}
 use lib.Dec.{leb}
 use Rattle.method.specs.Grounds.{afterToldMonth, beforeStandingCurve, Outcome, refused, done}
 use Rattle.method.specs.Sheet.{readSheet}
-use Rattle.method.specs.Curve.{none, some, Curves}
+use Rattle.method.specs.Curve.{Held, none, some, Curves, answer}
 use Rattle.method.proofs.Outcome.{bind-done, demand-done}
-use Rattle.ledger.specs.Book.{Standing, Book, booked, notBefore, postOutcome, withCurves, post}
-use Rattle.ledger.specs.Demands.{holding, Accepted, Demand2}
+use Rattle.ledger.specs.Book.{Standing, Book, booked, notBefore, postOutcome, withCurves, post, withdraw}
+use Rattle.ledger.specs.Demands.{holding, holdingPost, Accepted, Demand2}
 use Rattle.ledger.proofs.Asked.{refusal-kept, page-of-book}
+use Rattle.ledger.proofs.FirstGround.{withdrawn}
 
 not-before : (k : Standing) (m : ℕ) → ((c : Curves) → k ≡ some c → c .plain .month ≤ m) → notBefore k m ≡ true
 not-before none m h = refl
@@ -44,14 +45,24 @@ was-accepted b s c e =
     }
 
 accepted-only : (b : Book) (s : List ℕ) (m : ℕ) → post b s .answer ≡ done m →
-    (c : Curves) × Accepted b s c × (post b s .book ≡ holding b c) × (c .plain .month ≡ m)
+    (c : Curves) × Accepted b s c × (post b s .book ≡ holdingPost b s c) × (c .plain .month ≡ m)
 unfolding post
 accepted-only b s m e = go (postOutcome b s) refl e
   where
-    go : (o : Outcome Curves) → postOutcome b s ≡ o → booked b (withCurves b) (λ c. c .plain .month) o .answer ≡ done m →
-        (c : Curves) × Accepted b s c × (booked b (withCurves b) (λ c. c .plain .month) (postOutcome b s) .book ≡ holding b c) × (c .plain .month ≡ m)
+    go : (o : Outcome Curves) → postOutcome b s ≡ o → booked b (withCurves b s) (λ c. c .plain .month) o .answer ≡ done m →
+        (c : Curves) × Accepted b s c × (booked b (withCurves b s) (λ c. c .plain .month) (postOutcome b s) .book ≡ holdingPost b s c) × (c .plain .month ≡ m)
     go (refused g) p a = absurd (refusal-kept a refl)
     go (done c) p a = (c, was-accepted b s c p, rw p, cc a)
+
+brought-back : (b : Book) (s : List ℕ) (c : Curves) (hs : List (Held (List ℕ))) → b .history .below ≡ some s ∷ hs → answer s ≡ done c →
+    withdraw b ≡ record { book = holding b (some c) (some s) hs; answer = done tt }
+unfolding withdraw
+brought-back b s c hs e worked = ap (withdrawn b) e ∙ rw worked
+
+brought-none : (b : Book) (hs : List (Held (List ℕ))) → b .history .below ≡ none ∷ hs →
+    withdraw b ≡ record { book = holding b none none hs; answer = done tt }
+unfolding withdraw
+brought-none b hs e = ap (withdrawn b) e
 
 pub demand-2 : (b : Book) → Demand2 b
 unfolding post
@@ -59,5 +70,7 @@ demand-2 b =
     record {
       accepts = λ s c a. rw (accepts-it b s c a);
       accepts-only = accepted-only b;
+      brings-back = brought-back b;
+      brings-none = brought-none b;
       pages = page-of-book b;
     }

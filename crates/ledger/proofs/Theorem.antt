@@ -18,20 +18,22 @@ use Rattle.zero_rates.specs.Rates.{greatestMultiplier, reaches, ratesOf, zeroRa
 use Rattle.zero_rates.specs.Meaning.{HighRateExists}
 use Rattle.zero_rates.proofs.Theorem.{zero-rates, no-rate, rates-ordered, rates-between}
 use Rattle.ledger.specs.Answers.{finding}
-use Rattle.ledger.specs.Book.{Book, Paged, named, age, openCurve, bandAt, lookUp, page}
-use Rattle.ledger.specs.Calls.{lookAt, pageInto, Call, postOf, turnTo, asks, run}
-use Rattle.ledger.specs.Count.{LastSheet, unposted, posted, Count, monthOf, carries, typed, acceptsSheet, acceptsMonth}
+use Rattle.ledger.specs.History.{History}
+use Rattle.ledger.specs.Book.{Book, Paged, standingOf, named, age, openCurve, bandAt, lookUp, page}
+use Rattle.ledger.specs.Calls.{lookAt, pageInto, Call, postOf, turnTo, withdrawal, asks, run}
+use Rattle.ledger.specs.Count.{Count, latest, monthOf, carries, typed, acceptsSheet, acceptsMonth, acceptsWithdrawal}
 use Rattle.ledger.specs.Count.{counted, countFrom, nothing, count}
 use Rattle.ledger.specs.Tells.{missing, Carries, bandAmong, bandIn, bandOf, Band, Finds, LookTells, PageWritten, PageTells}
-use Rattle.ledger.specs.Demands.{Demand3, lastPosted, lastTold, CountIsLast, CurveFits, FitsPage}
-use Rattle.ledger.proofs.Count.{bookWith, bookOf, standingOf, Sound, SoundCount, sound, all-sound}
-use Rattle.ledger.proofs.Count.{works-done, answer-typed, curve-month, curve-there, curve-missing, step, steps, sheet-step, told-step}
+use Rattle.ledger.specs.Demands.{Demand3, lastPosts, lastTold, CountIsLast, CurveFits, FitsPage}
+use Rattle.ledger.proofs.Ways.{historyOf}
+use Rattle.ledger.proofs.Count.{bookOf, Sound, AllSound, SoundCount, sound, all-sound, works-done, answer-typed}
+use Rattle.ledger.proofs.Count.{curve-month, curve-there, curve-missing, step, steps, posts-step, posts-left-step, told-step}
 use Rattle.ledger.proofs.Asked.{refusal-kept, other-ground, open-within, closed-old, closed-none, look-outside, look-open, look-closed}
 use Rattle.ledger.proofs.Asked.{page-short, page-closed, page-refused, page-of-book}
 
--- ---- what the last accepted sheet is worked to
+-- ---- what the sheet that stands is worked to
 
-module _ (told : ℕ) (s : List ℕ) (g : Sound told (posted s)) where
+module _ (told : ℕ) (s : List ℕ) (g : Sound told s) where
   curves : Curves
   curves = works-done s (g .0) .0
 
@@ -39,11 +41,11 @@ module _ (told : ℕ) (s : List ℕ) (g : Sound told (posted s)) where
   unfolding curves
   worked = works-done s (g .0) .1
 
-  stands : standingOf (posted s) ≡ some curves
+  stands : standingOf (some s) ≡ some curves
   stands = rw worked
 
   -- a curve that it does not carry is none
-  not-named : (w : Which) → carries w s ≡ false → named w (standingOf (posted s)) ≡ none
+  not-named : (w : Which) → carries w s ≡ false → named w (standingOf (some s)) ≡ none
   not-named w t = rw stands (curve-missing w s worked t)
 
   -- one that it carries
@@ -55,7 +57,7 @@ module _ (told : ℕ) (s : List ℕ) (g : Sound told (posted s)) where
     unfolding curve
     among = curve-there w s worked t .1
 
-    named-is : named w (standingOf (posted s)) ≡ some curve
+    named-is : named w (standingOf (some s)) ≡ some curve
     named-is = rw stands among
 
     month-is : curve .month ≡ monthOf s
@@ -95,13 +97,13 @@ module _ (told : ℕ) (s : List ℕ) (g : Sound told (posted s)) where
           high-fits = high-fits;
         }
 
-    -- the book with this sheet's curves, made with any age limit
-    module _ (limit : ℕ) (ht : told ≤ 2_399) where
+    -- the book with this sheet's curves, made with any age limit; how it came by them does not matter
+    module _ (limit : ℕ) (ht : told ≤ 2_399) (history : History) where
       abbrev made-with : ℕ
       made-with = min limit 2_399
 
       abbrev held : Book
-      held = bookWith made-with told (posted s)
+      held = record { ageLimit = made-with; told = told; standing = standingOf (some s); history = history }
 
       abbrev here : Held Curve
       here = named w (held .standing)
@@ -170,33 +172,27 @@ module _ (told : ℕ) (s : List ℕ) (g : Sound told (posted s)) where
 
 -- ---- demand 3
 
-never-posted : {s : List ℕ} → posted s ≡ unposted → ⊥
-never-posted e = let z : _≡_ {A = ℕ} 0 1 = cc in omega arith
-
-same-sheet : {s t : List ℕ} → posted s ≡ posted t → s ≡ t
-same-sheet e = cc e
-
 not-both : (b : Bool) → b ≡ true → not b ≡ true → ⊥
 not-both true e h = subst T (sym h) tt
 not-both false e h = subst T (sym e) tt
 
--- the last accepted sheet is one, and does not carry the curve
-other-carries : (w : Which) (s t : List ℕ) → carries w s ≡ false → posted s ≡ posted t → carries w t ≡ true → ⊥
-other-carries w s t f e h = not-both (carries w s) (rw (same-sheet e) h) (rw f)
+-- the sheet that stands is one, and does not carry the curve
+other-carries : (w : Which) (s t : List ℕ) → carries w s ≡ false → some s ≡ some t → carries w t ≡ true → ⊥
+other-carries w s t f e h = not-both (carries w s) (rw (some-injective e) h) (rw f)
 
-module _ (limit told : ℕ) (m : told ≤ 2_399) (w : Which) where
-  -- the book with the last accepted sheet, and its count
-  abbrev book-with : LastSheet → Book
-  book-with h = bookWith (min limit 2_399) told h
+module _ (limit told : ℕ) (m : told ≤ 2_399) (depth : ℕ) (w : Which) where
+  -- the count of these posts not withdrawn, and its book
+  abbrev count-with : List (List ℕ) → Count
+  count-with ss = record { told = told; posts = ss; depth = depth }
 
-  abbrev count-with : LastSheet → Count
-  count-with h = record { told = told; sheet = h }
+  abbrev book-with : List (List ℕ) → Book
+  book-with ss = bookOf (min limit 2_399) (count-with ss)
 
   -- where the named curve is missing
-  look-missing : (h : LastSheet) → named w (standingOf h) ≡ none → missing w h ≡ true → ((s : List ℕ) → Carries (count-with h) w s → ⊥) → (y : ℕ) →
-      LookTells limit (count-with h) w y (lookUp (book-with h) w y)
-  look-missing h none-named gone carried y =
-      let k = named w (standingOf h) in
+  look-missing : (ss : List (List ℕ)) → named w (standingOf (latest ss)) ≡ none → missing w (latest ss) ≡ true →
+      ((s : List ℕ) → Carries (count-with ss) w s → ⊥) → (y : ℕ) → LookTells limit (count-with ss) w y (lookUp (book-with ss) w y)
+  look-missing ss none-named gone carried y =
+      let k = named w (standingOf (latest ss)) in
       record {
         outside = look-outside k told (min limit 2_399) y;
         none-found = λ h k′. (λ e. gone, λ e. look-closed k told (min limit 2_399) y (closed-none k told (min limit 2_399) none-named) h k′);
@@ -205,34 +201,13 @@ module _ (limit told : ℕ) (m : told ≤ 2_399) (w : Which) where
         no-high-rate = λ s e a h k x. absurd (carried s e);
       }
 
-  look-carried : (s : List ℕ) → Sound told (posted s) → carries w s ≡ true → (y : ℕ) →
-      LookTells limit (count-with (posted s)) w y (lookUp (book-with (posted s)) w y)
-  look-carried s g t y =
-      let look = lookUp (book-with (posted s)) w y in
-      record {
-        outside = look-outside (named w (standingOf (posted s))) told (min limit 2_399) y;
-        none-found = λ h k. (λ e. absurd (look-never-none told s g w t limit m y h k e), λ e. absurd (not-both (carries w s) t e));
-        finds = λ u e a h k exists.
-            let same = same-sheet (e .0) in
-            subst (λ x. Finds (count-with (posted s)) w x y look) same (finds-of told s g w t limit m (rw same a) y h k _ refl (rw same exists));
-        too-old = λ u e o h k. look-old told s g w t limit m (rw (same-sheet (e .0)) o) y h k;
-        no-high-rate = λ u e a h k none. look-unrated told s g w t limit m (rw (same-sheet (e .0)) a) y h k (rw (same-sheet (e .0)) none);
-      }
-
-  look-tells : (h : LastSheet) → Sound told h → (y : ℕ) → LookTells limit (count-with h) w y (lookUp (book-with h) w y)
-  look-tells unposted g y = look-missing unposted refl refl (λ s e. never-posted (sym (e .0))) y
-  look-tells (posted s) g y =
-      split (carries w s)
-      (λ t. look-carried s g t y)
-      (λ f. look-missing (posted s) (not-named told s g w f) (rw f) (λ u e. other-carries w s u f (e .0) (e .1)) y)
-
-  page-missing : (h : LastSheet) → named w (standingOf h) ≡ none → missing w h ≡ true → ((s : List ℕ) → Carries (count-with h) w s → ⊥) → (l : List ℕ) →
-      PageTells limit (count-with h) w l (page (book-with h) w l)
-  page-missing h none-named gone carried l =
-      let k = named w (standingOf h) in
+  page-missing : (ss : List (List ℕ)) → named w (standingOf (latest ss)) ≡ none → missing w (latest ss) ≡ true →
+      ((s : List ℕ) → Carries (count-with ss) w s → ⊥) → (l : List ℕ) → PageTells limit (count-with ss) w l (page (book-with ss) w l)
+  page-missing ss none-named gone carried l =
+      let k = named w (standingOf (latest ss)) in
       let closed = page-closed k told (min limit 2_399) l (closed-none k told (min limit 2_399) none-named) in
       record {
-        untouched = page-refused (book-with h) w l;
+        untouched = page-refused (book-with ss) w l;
         none-found = (λ e. gone, λ e. ap (λ (p : Paged). p .answer) closed);
         too-old = λ s e o. absurd (carried s e);
         too-short = λ s e a h. absurd (carried s e);
@@ -240,68 +215,112 @@ module _ (limit told : ℕ) (m : told ≤ 2_399) (w : Which) where
         bands = λ s e a y h k. absurd (carried s e);
       }
 
-  page-carried : (s : List ℕ) → Sound told (posted s) → carries w s ≡ true → (l : List ℕ) →
-      PageTells limit (count-with (posted s)) w l (page (book-with (posted s)) w l)
-  page-carried s g t l =
-      let paged = page (book-with (posted s)) w l in
-      record {
-        untouched = page-refused (book-with (posted s)) w l;
-        none-found = (λ e. absurd (page-never-none told s g w t limit m l e), λ e. absurd (not-both (carries w s) t e));
-        too-old = λ u e o. page-old told s g w t limit m (rw (same-sheet (e .0)) o) l;
-        too-short = λ u e a h. short-of told s g w t limit m (rw (same-sheet (e .0)) a) l h;
-        writes = λ u e a h.
-            let same = same-sheet (e .0) in
-            subst (λ x. PageWritten l (monthOf x) (told - monthOf x) (bandOf w x) paged) same (page-of told s g w t limit m l (rw same a) h);
-        bands = λ u e a y h k. subst (λ x. Band w x y (bandOf w x y)) (same-sheet (e .0)) (band-of told s g w t y h k);
-      }
+  -- where the sheet that stands carries it
+  module _ (s : List ℕ) (ss : List (List ℕ)) (g : Sound told s) (t : carries w s ≡ true) where
+    abbrev history : History
+    history = historyOf (s ∷ ss) depth
 
-  page-tells : (h : LastSheet) → Sound told h → (l : List ℕ) → PageTells limit (count-with h) w l (page (book-with h) w l)
-  page-tells unposted g l = page-missing unposted refl refl (λ s e. never-posted (sym (e .0))) l
-  page-tells (posted s) g l =
+    look-carried : (y : ℕ) → LookTells limit (count-with (s ∷ ss)) w y (lookUp (book-with (s ∷ ss)) w y)
+    look-carried y =
+        let look = lookUp (book-with (s ∷ ss)) w y in
+        record {
+          outside = look-outside (named w (standingOf (some s))) told (min limit 2_399) y;
+          none-found = λ h k. (λ e. absurd (look-never-none told s g w t limit m history y h k e), λ e. absurd (not-both (carries w s) t e));
+          finds = λ u e a h k exists.
+              let same = some-injective (e .0) in
+              subst (λ x. Finds (count-with (s ∷ ss)) w x y look) same (finds-of told s g w t limit m history (rw same a) y h k _ refl (rw same exists));
+          too-old = λ u e o h k. look-old told s g w t limit m history (rw (some-injective (e .0)) o) y h k;
+          no-high-rate = λ u e a h k none.
+              let same = some-injective (e .0) in
+              look-unrated told s g w t limit m history (rw same a) y h k (rw same none);
+        }
+
+    page-carried : (l : List ℕ) → PageTells limit (count-with (s ∷ ss)) w l (page (book-with (s ∷ ss)) w l)
+    page-carried l =
+        let paged = page (book-with (s ∷ ss)) w l in
+        record {
+          untouched = page-refused (book-with (s ∷ ss)) w l;
+          none-found = (λ e. absurd (page-never-none told s g w t limit m history l e), λ e. absurd (not-both (carries w s) t e));
+          too-old = λ u e o. page-old told s g w t limit m history (rw (some-injective (e .0)) o) l;
+          too-short = λ u e a h. short-of told s g w t limit m history (rw (some-injective (e .0)) a) l h;
+          writes = λ u e a h.
+              let same = some-injective (e .0) in
+              subst (λ x. PageWritten l (monthOf x) (told - monthOf x) (bandOf w x) paged) same (page-of told s g w t limit m history l (rw same a) h);
+          bands = λ u e a y h k. subst (λ x. Band w x y (bandOf w x y)) (some-injective (e .0)) (band-of told s g w t y h k);
+        }
+
+  look-tells : (ss : List (List ℕ)) → AllSound told ss → (y : ℕ) → LookTells limit (count-with ss) w y (lookUp (book-with ss) w y)
+  look-tells [] g y = look-missing [] refl refl (λ s e. none-not-some (e .0)) y
+  look-tells (s ∷ ss) g y =
       split (carries w s)
-      (λ t. page-carried s g t l)
-      (λ f. page-missing (posted s) (not-named told s g w f) (rw f) (λ u e. other-carries w s u f (e .0) (e .1)) l)
+      (λ t. look-carried s ss (g .0) t y)
+      (λ f. look-missing (s ∷ ss) (not-named told s (g .0) w f) (rw f) (λ u e. other-carries w s u f (e .0) (e .1)) y)
+
+  page-tells : (ss : List (List ℕ)) → AllSound told ss → (l : List ℕ) → PageTells limit (count-with ss) w l (page (book-with ss) w l)
+  page-tells [] g l = page-missing [] refl refl (λ s e. none-not-some (e .0)) l
+  page-tells (s ∷ ss) g l =
+      split (carries w s)
+      (λ t. page-carried s ss (g .0) t l)
+      (λ f. page-missing (s ∷ ss) (not-named told s (g .0) w f) (rw f) (λ u e. other-carries w s u f (e .0) (e .1)) l)
 
 -- the book that any list of calls leaves is the one that its count stands for
+pub sound-nothing : SoundCount nothing
+sound-nothing = record { month = omega arith; sheets = tt; enough = omega arith; three = omega arith }
+
 pub run-is : (limit : ℕ) (cs : List Call) → run limit cs ≡ bookOf (min limit 2_399) (count cs)
-run-is limit cs = steps (min limit 2_399) nothing (omega arith, tt) cs
+run-is limit cs = steps (min limit 2_399) nothing sound-nothing cs
 
 pub run-sound : (cs : List Call) → SoundCount (count cs)
-run-sound cs = all-sound nothing (omega arith, tt) cs
+run-sound cs = all-sound nothing sound-nothing cs
 
 pub demand-3 : (limit : ℕ) (cs : List Call) → Demand3 limit cs
-demand-3 limit cs (lookAt w y) = rw (run-is limit cs) (look-tells limit (count cs .told) (run-sound cs .0) w (count cs .sheet) (run-sound cs .1) y)
-demand-3 limit cs (pageInto w l) = rw (run-is limit cs) (page-tells limit (count cs .told) (run-sound cs .0) w (count cs .sheet) (run-sound cs .1) l)
+demand-3 limit cs (lookAt w y) =
+    let c = count cs in
+    let g = run-sound cs in
+    rw (run-is limit cs) (look-tells limit (c .told) (g .month) (c .depth) w (c .posts) (g .sheets) y)
+demand-3 limit cs (pageInto w l) =
+    let c = count cs in
+    let g = run-sound cs in
+    rw (run-is limit cs) (page-tells limit (c .told) (g .month) (c .depth) w (c .posts) (g .sheets) l)
 
 -- every number of every book that calls can leave fits its bytes on the page
-sheet-fits : (limit told : ℕ) (h : LastSheet) → told ≤ 2_399 → Sound told h → FitsPage (bookWith limit told h)
-sheet-fits limit told unposted m g w c e = absurd (none-not-some e)
-sheet-fits limit told (posted s) m g w c e =
+sheet-fits : (limit told : ℕ) (ss : List (List ℕ)) (depth : ℕ) → told ≤ 2_399 → AllSound told ss →
+    FitsPage (bookOf limit (record { told = told; posts = ss; depth = depth }))
+sheet-fits limit told [] depth m g w c e = absurd (none-not-some e)
+sheet-fits limit told (s ∷ ss) depth m g w c e =
     split (carries w s)
-    (λ t. subst (CurveFits told) (some-injective (sym (named-is told s g w t) ∙ e)) (fits told s g w t m))
-    (λ f. absurd (none-not-some (sym (not-named told s g w f) ∙ e)))
+    (λ t. subst (CurveFits told) (some-injective (sym (named-is told s (g .0) w t) ∙ e)) (fits told s (g .0) w t m))
+    (λ f. absurd (none-not-some (sym (not-named told s (g .0) w f) ∙ e)))
 
 pub run-fits : (limit : ℕ) (cs : List Call) → FitsPage (run limit cs)
-run-fits limit cs = rw (run-is limit cs) (sheet-fits (min limit 2_399) (count cs .told) (count cs .sheet) (run-sound cs .0) (run-sound cs .1))
+run-fits limit cs =
+    let c = count cs in
+    let g = run-sound cs in
+    rw (run-is limit cs) (sheet-fits (min limit 2_399) (c .told) (c .posts) (c .depth) (g .month) (g .sheets))
 
 -- ---- the count by the answers
 
-sheet-kept : (c : Count) (m : ℕ) → counted c (turnTo m) .sheet ≡ c .sheet
-sheet-kept c m = split (acceptsMonth c m) (λ q. rw q) (λ q. rw q)
+posts-kept : (c : Count) (m : ℕ) → counted c (turnTo m) .posts ≡ c .posts
+posts-kept c m = split (acceptsMonth c m) (λ q. rw q) (λ q. rw q)
 
 told-kept : (c : Count) (s : List ℕ) → counted c (postOf s) .told ≡ c .told
 told-kept c s = split (acceptsSheet c s) (λ q. rw q) (λ q. rw q)
 
+told-remains : (c : Count) → counted c withdrawal .told ≡ c .told
+told-remains c = split (acceptsWithdrawal c) (λ q. rw q) (λ q. rw q)
+
 module _ (limit : ℕ) where
-  last-sheet-is : (c : Count) → SoundCount c → (cs : List Call) → countFrom c cs .sheet ≡ lastPosted (bookOf limit c) (c .sheet) cs
-  last-sheet-is c g [] = refl
-  last-sheet-is c g (postOf s ∷ cs) =
-      rw (step limit c g (postOf s), sheet-step limit c g s) (last-sheet-is (counted c (postOf s)) (sound c g (postOf s)) cs)
-  last-sheet-is c g (turnTo m ∷ cs) =
+  last-posts-are : (c : Count) → SoundCount c → (cs : List Call) → countFrom c cs .posts ≡ lastPosts (bookOf limit c) (c .posts) cs
+  last-posts-are c g [] = refl
+  last-posts-are c g (postOf s ∷ cs) =
+      rw (step limit c g (postOf s), posts-step limit c g s) (last-posts-are (counted c (postOf s)) (sound c g (postOf s)) cs)
+  last-posts-are c g (turnTo m ∷ cs) =
       let d = counted c (turnTo m) in
       rw (step limit c g (turnTo m))
-      (last-sheet-is d (sound c g (turnTo m)) cs ∙ ap (λ (h : LastSheet). lastPosted (bookOf limit d) h cs) (sheet-kept c m))
-  last-sheet-is c g (asks q ∷ cs) = last-sheet-is c g cs
+      (last-posts-are d (sound c g (turnTo m)) cs ∙ ap (λ (ss : List (List ℕ)). lastPosts (bookOf limit d) ss cs) (posts-kept c m))
+  last-posts-are c g (withdrawal ∷ cs) =
+      rw (step limit c g withdrawal, posts-left-step limit c g) (last-posts-are (counted c withdrawal) (sound c g withdrawal) cs)
+  last-posts-are c g (asks q ∷ cs) = last-posts-are c g cs
 
   last-told-is : (c : Count) → SoundCount c → (cs : List Call) → countFrom c cs .told ≡ lastTold (bookOf limit c) (c .told) cs
   last-told-is c g [] = refl
@@ -310,11 +329,14 @@ module _ (limit : ℕ) where
       rw (step limit c g (postOf s)) (last-told-is d (sound c g (postOf s)) cs ∙ ap (λ (t : ℕ). lastTold (bookOf limit d) t cs) (told-kept c s))
   last-told-is c g (turnTo m ∷ cs) =
       rw (step limit c g (turnTo m), told-step limit c m) (last-told-is (counted c (turnTo m)) (sound c g (turnTo m)) cs)
+  last-told-is c g (withdrawal ∷ cs) =
+      let d = counted c withdrawal in
+      rw (step limit c g withdrawal) (last-told-is d (sound c g withdrawal) cs ∙ ap (λ (t : ℕ). lastTold (bookOf limit d) t cs) (told-remains c))
   last-told-is c g (asks q ∷ cs) = last-told-is c g cs
 
 pub count-is-last : (limit : ℕ) (cs : List Call) → CountIsLast limit cs
 count-is-last limit cs =
     record {
-      last-sheet = last-sheet-is (min limit 2_399) nothing (omega arith, tt) cs;
-      last-month = last-told-is (min limit 2_399) nothing (omega arith, tt) cs;
+      last-posts = last-posts-are (min limit 2_399) nothing sound-nothing cs;
+      last-month = last-told-is (min limit 2_399) nothing sound-nothing cs;
     }

@@ -1,4 +1,4 @@
--- SPECIFICATION 7: the book, and what each call answers and leaves behind, with grounds 1 to 17 in their order.
+-- SPECIFICATION 7: the book, and what each call answers and leaves behind, with grounds 1 to 18 in their order.
 use mathlib.Core.Bool.{Bool, true, _&&_}
 use mathlib.Core.List.{List, _++_}
 use Prim.Native.Nat.{ℕ, _-_, min}
@@ -8,13 +8,14 @@ use Rattle.method.specs.Units.{Which, Pair, pair}
 use Rattle.method.specs.Grounds.{afterToldMonth, beforeStandingCurve, monthAboveLast, monthBeforeTold, yearOutside, noCurve, bufferTooShort, ageAboveLimit}
 use Rattle.method.specs.Grounds.{Outcome, refused, done, _>>=_, demand}
 use Rattle.method.specs.Sheet.{readSheet}
-use Rattle.method.specs.Curve.{Curve, Held, none, some, Curves, curveNamed, curvesOf}
+use Rattle.method.specs.Curve.{Curve, Held, none, some, Curves, curveNamed, curvesOf, answer}
 use Rattle.method.specs.Enclosure.{lowOf, highOf}
 use Rattle.zero_rates.specs.Rates.{zeroRates}
 use Rattle.ledger.specs.Answers.{Finding, finding}
+use Rattle.ledger.specs.History.{History, noPosts, withPost, wayBack}
 use Rattle.ledger.specs.Page.{pageBytes, pageLength}
 
--- the curves of the last accepted sheet, if there is one
+-- the curves of the sheet that stands, if there is one
 abbrev pub Standing : Type 0
 Standing = Held Curves
 
@@ -22,6 +23,7 @@ pub record Book : Type 0 where
   pub ageLimit : ℕ
   pub told : ℕ
   pub standing : Standing
+  pub history : History
 
 -- the desk's; no curve can be older, as no later month can be told
 abbrev pub largestAgeLimit : ℕ
@@ -29,18 +31,18 @@ largestAgeLimit = 2_399
 
 -- made with an age limit, a larger number making the largest one; told month 0 and no curve
 abbrev pub fresh : ℕ → Book
-fresh limit = record { ageLimit = min limit largestAgeLimit; told = 0; standing = none }
+fresh limit = record { ageLimit = min limit largestAgeLimit; told = 0; standing = none; history = noPosts }
 
--- ---- a call that may change the book: the book after it, and the month that it answers
+-- ---- a call that may change the book: the book after it, and what it answers
 
-pub record Booked : Type 0 where
+pub record Booked (B : Type 0) : Type 0 where
   pub book : Book
-  pub answer : Outcome ℕ
+  pub answer : Outcome B
 
 -- a refusal leaves the book as it was
-abbrev pub booked : {A : Type 0} → Book → (A → Book) → (A → ℕ) → Outcome A → Booked
-booked b changed month (refused g) = record { book = b; answer = refused g }
-booked b changed month (done a) = record { book = changed a; answer = done (month a) }
+abbrev pub booked : {A B : Type 0} → Book → (A → Book) → (A → B) → Outcome A → Booked B
+booked b changed said (refused g) = record { book = b; answer = refused g }
+booked b changed said (done a) = record { book = changed a; answer = done (said a) }
 
 -- ---- post: 1 to 4, then 5 and 6, then 7 to 10
 
@@ -56,12 +58,12 @@ postOutcome b s = do
   _ ← demand (notBefore (b .standing) (n .month)) beforeStandingCurve
   curvesOf n
 
--- the curves and their month are replaced; the answer is the sheet's month
-abbrev pub withCurves : Book → Curves → Book
-withCurves b cs = record { ageLimit = b .ageLimit; told = b .told; standing = some cs }
+-- the curves and their month are replaced, and what stood can be had back; the answer is the sheet's month
+abbrev pub withCurves : Book → List ℕ → Curves → Book
+withCurves b s cs = record { ageLimit = b .ageLimit; told = b .told; standing = some cs; history = withPost s (b .history) }
 
-unfoldable pub post : Book → List ℕ → Booked
-post b s = booked b (withCurves b) (λ cs. cs .plain .month) (postOutcome b s)
+unfoldable pub post : Book → List ℕ → Booked ℕ
+post b s = booked b (withCurves b s) (λ cs. cs .plain .month) (postOutcome b s)
 
 -- ---- turn: 11, 12
 
@@ -76,10 +78,28 @@ turnOutcome b m = do
 
 -- the answer is the month that is now told
 abbrev pub withTold : Book → ℕ → Book
-withTold b m = record { ageLimit = b .ageLimit; told = m; standing = b .standing }
+withTold b m = record { ageLimit = b .ageLimit; told = m; standing = b .standing; history = b .history }
 
-unfoldable pub turn : Book → ℕ → Booked
+unfoldable pub turn : Book → ℕ → Booked ℕ
 turn b m = booked b (withTold b) (λ m. m) (turnOutcome b m)
+
+-- ---- withdrawal: 18
+
+abbrev pub ifWorked : Outcome Curves → Standing
+ifWorked (refused g) = none
+ifWorked (done cs) = some cs
+
+-- what stands where this sheet does: its curves, worked again
+abbrev pub standingOf : Held (List ℕ) → Standing
+standingOf none = none
+standingOf (some s) = ifWorked (answer s)
+
+-- the curves and their month are those of the sheet that stands again; the told month remains
+abbrev pub withHistory : Book → History → Book
+withHistory b h = record { ageLimit = b .ageLimit; told = b .told; standing = standingOf (h .sheet); history = h }
+
+unfoldable pub withdraw : Book → Booked (Unit {0})
+withdraw b = booked b (withHistory b) (λ h. tt) (wayBack (b .history .below))
 
 -- ---- the curve that a question names: none where no sheet stands, and no adjusted one where the sheet had none
 

@@ -4,17 +4,18 @@ use Prim.Native.Nat.{ℕ}
 use Rattle.method.specs.Units.{Which}
 use Rattle.method.specs.Grounds.{Outcome}
 use Rattle.ledger.specs.Answers.{Finding, answerNumber, answerPlace}
-use Rattle.ledger.specs.Book.{Book, Paged, fresh, post, turn, lookUp, page}
+use Rattle.ledger.specs.Book.{Book, Paged, fresh, post, turn, withdraw, lookUp, page}
 
 -- what leaves the book as it is, and names its curve: a look-up of any year, a page into any buffer
 pub data Question : Type 0 where
   lookAt : Which → ℕ → Question
   pageInto : Which → List ℕ → Question
 
--- a post of any bytes, a turn to any month, or a question
+-- a post of any bytes, a turn to any month, a withdrawal, or a question
 pub data Call : Type 0 where
   postOf : List ℕ → Call
   turnTo : ℕ → Call
+  withdrawal : Call
   asks : Question → Call
 
 -- ---- the run: the first call gets a fresh book, each later one the book as the call before it left it
@@ -22,6 +23,7 @@ pub data Call : Type 0 where
 abbrev pub after : Book → Call → Book
 after b (postOf s) = post b s .book
 after b (turnTo m) = turn b m .book
+after b withdrawal = withdraw b .book
 after b (asks q) = b
 
 abbrev pub runFrom : Book → List Call → Book
@@ -53,5 +55,6 @@ answerBy o = record { number = answerNumber o; place = answerPlace o }
 abbrev pub answerOf : Book → Call → Answer
 answerOf b (postOf s) = answerBy (post b s .answer)
 answerOf b (turnTo m) = answerBy (turn b m .answer)
+answerOf b withdrawal = answerBy (withdraw b .answer)
 answerOf b (asks (lookAt w y)) = answerBy (lookUp b w y)
 answerOf b (asks (pageInto w l)) = answerBy (page b w l .answer)

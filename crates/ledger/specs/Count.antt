@@ -1,15 +1,15 @@
 -- SPECIFICATION 8: the count, from what the calls bring alone. Whatever it needs of a sheet it reads from the bytes in its own words.
 use mathlib.Core.Bool.{Bool, true, false, cond, _&&_}
 use mathlib.Core.List.{List, [], _∷_, map}
-use Prim.Native.Nat.{ℕ, zero, suc, _+_, _-_, _*_}
+use Prim.Native.Nat.{ℕ, zero, suc, _+_, _-_, _*_, min}
 use lib.Dec.{leb, ltb, eqb}
 use lib.IntN.{ℤ, pos, _-ℤ_}
-use lib.ListN.{length, getD}
+use lib.ListN.{length, getD, drop}
 use Rattle.method.specs.Units.{Which, plain, adjusted}
 use Rattle.method.specs.Grounds.{Outcome, refused, done}
 use Rattle.method.specs.Sheet.{Numbers}
-use Rattle.method.specs.Curve.{answer}
-use Rattle.ledger.specs.Calls.{Call, postOf, turnTo, asks}
+use Rattle.method.specs.Curve.{Held, none, some, answer}
+use Rattle.ledger.specs.Calls.{Call, postOf, turnTo, withdrawal, asks}
 
 -- ---- a sheet's numbers by the offsets of their bytes, the high byte first
 
@@ -64,15 +64,21 @@ typed s =
       adjustment = adjustmentOf s;
     }
 
--- ---- a told month, at first 0, and the last accepted sheet, at first none
-
-pub data LastSheet : Type 0 where
-  unposted : LastSheet
-  posted : List ℕ → LastSheet
+-- ---- a told month, at first 0; the sheets of all accepted posts not withdrawn, at first none, the latest first; how many of them can be
+-- withdrawn one after the other, at first 0
 
 pub record Count : Type 0 where
   pub told : ℕ
-  pub sheet : LastSheet
+  pub posts : List (List ℕ)
+  pub depth : ℕ
+
+abbrev pub latest : List (List ℕ) → Held (List ℕ)
+latest [] = none
+latest (s ∷ ss) = some s
+
+-- the last accepted post not withdrawn
+abbrev pub lastSheet : Count → Held (List ℕ)
+lastSheet c = latest (c .posts)
 
 abbrev pub isDone : {A : Type 0} → Outcome A → Bool
 isDone (refused g) = false
@@ -83,21 +89,26 @@ abbrev pub works : List ℕ → Bool
 works s = isDone (answer s)
 
 -- while there is no sheet 6 does not apply
-abbrev pub inOrder : LastSheet → ℕ → Bool
-inOrder unposted m = true
-inOrder (posted s) m = leb (monthOf s) m
+abbrev pub inOrder : Held (List ℕ) → ℕ → Bool
+inOrder none m = true
+inOrder (some s) m = leb (monthOf s) m
 
 -- 5 with the count's told month, 6 with the month of its sheet
 unfoldable pub acceptsSheet : Count → List ℕ → Bool
-acceptsSheet c s = works s && (leb (monthOf s) (c .told) && inOrder (c .sheet) (monthOf s))
+acceptsSheet c s = works s && (leb (monthOf s) (c .told) && inOrder (lastSheet c) (monthOf s))
 
 unfoldable pub acceptsMonth : Count → ℕ → Bool
 acceptsMonth c m = leb m 2_399 && leb (c .told) m
 
--- refused calls and questions change neither
+-- 18 at depth 0
+unfoldable pub acceptsWithdrawal : Count → Bool
+acceptsWithdrawal c = ltb 0 (c .depth)
+
+-- refused calls and questions change nothing
 abbrev pub counted : Count → Call → Count
-counted c (postOf s) = cond (acceptsSheet c s) (record { told = c .told; sheet = posted s }) c
-counted c (turnTo m) = cond (acceptsMonth c m) (record { told = m; sheet = c .sheet }) c
+counted c (postOf s) = cond (acceptsSheet c s) (record { told = c .told; posts = s ∷ c .posts; depth = min (c .depth + 1) 3 }) c
+counted c (turnTo m) = cond (acceptsMonth c m) (record { told = m; posts = c .posts; depth = c .depth }) c
+counted c withdrawal = cond (acceptsWithdrawal c) (record { told = c .told; posts = drop 1 (c .posts); depth = c .depth - 1 }) c
 counted c (asks q) = c
 
 abbrev pub countFrom : Count → List Call → Count
@@ -105,7 +116,7 @@ countFrom c [] = c
 countFrom c (d ∷ ds) = countFrom (counted c d) ds
 
 abbrev pub nothing : Count
-nothing = record { told = 0; sheet = unposted }
+nothing = record { told = 0; posts = []; depth = 0 }
 
 abbrev pub count : List Call → Count
 count cs = countFrom nothing cs

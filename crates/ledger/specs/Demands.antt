@@ -1,26 +1,26 @@
 -- SPECIFICATION 8: the three demands, as statements over the definitions.
 use mathlib.Core.Path.{_≡_}
 use mathlib.Core.Bool.{Bool, true, false, not, _||_}
-use mathlib.Core.List.{List, [], _∷_}
-use mathlib.Core.Logic.{_⊎_}
+use mathlib.Core.List.{List, [], _∷_, _++_, map}
+use mathlib.Core.Logic.{_⊎_, _↔_}
 use Prim.Native.Nat.{ℕ, _+_, _-_, _≤_, _<_}
 use lib.Dec.{ltb, eqb}
 use lib.IntN.{pos, _*ℤ_}
-use lib.ListN.{length, getD}
+use lib.ListN.{length, getD, take, drop, replicate}
 use lib.Signed.{ltZ}
 use Rattle.method.specs.Units.{Which, pair, signedPair}
 use Rattle.method.specs.Grounds.{Ground, wrongLength, wrongRecord, outOfRange, noVolume, afterToldMonth, beforeStandingCurve}
-use Rattle.method.specs.Grounds.{monthAboveLast, monthBeforeTold, yearOutside, noCurve, bufferTooShort, ageAboveLimit, noHighRate}
+use Rattle.method.specs.Grounds.{monthAboveLast, monthBeforeTold, yearOutside, noCurve, bufferTooShort, ageAboveLimit, noHighRate, noPostLeft}
 use Rattle.method.specs.Grounds.{Outcome, refused, done}
 use Rattle.method.specs.Sheet.{Numbers, readSheet, sheetNumbers, layoutOf, slotsOf, firstFailure, rightRecord, inRange, total}
-use Rattle.method.specs.Curve.{Curve, Held, none, some, Curves, curvesOf}
+use Rattle.method.specs.Curve.{Curve, Held, none, some, Curves, curvesOf, answer}
 use Rattle.method.specs.Enclosure.{lowOf, highOf}
 use Rattle.zero_rates.specs.Rates.{ratesOf}
 use Rattle.zero_rates.specs.Meaning.{grown}
 use Rattle.ledger.specs.Answers.{Finding, finding}
-use Rattle.ledger.specs.Book.{Standing, Book, fresh, post, turn, named, lookUp, page}
-use Rattle.ledger.specs.Calls.{Question, Call, postOf, turnTo, asks, run, answered, answerOf}
-use Rattle.ledger.specs.Count.{LastSheet, unposted, posted, count}
+use Rattle.ledger.specs.Book.{Standing, Book, fresh, post, turn, withdraw, named, lookUp, page}
+use Rattle.ledger.specs.Calls.{Question, Call, postOf, turnTo, withdrawal, asks, runFrom, run, answered, answerOf}
+use Rattle.ledger.specs.Count.{count}
 use Rattle.ledger.specs.Tells.{PageWritten, Tells}
 
 -- ═══ Demand 3: over EVERY list of calls from a fresh book of ANY age limit, any question is answered as the count of the list tells
@@ -38,42 +38,75 @@ pub record Closes (b : Book) (w : Which) (y m : ℕ) : Type 0 where
 abbrev pub TurnCloses : Book → Type 0
 TurnCloses b = (w : Which) (y m : ℕ) (f : Finding) → lookUp b w y ≡ done f → b .told ≤ m → m ≤ 2_399 → f .month + b .ageLimit < m → Closes b w y m
 
--- ═══ The age limit closes a curve and does nothing else. Whatever it is, the same curve stands and the same posts and turns are
--- accepted as with the largest one; a question is answered as with that, or 16, which that one never answers
+-- ═══ The age limit closes a curve and does nothing else. Whatever it is, the same curve stands, with the same ways back, and the same
+-- posts, turns and withdrawals are accepted as with the largest one; a question is answered as with that, or 16, which that one never answers
 
 pub record OnlyCloses (limit : ℕ) (cs : List Call) : Type 0 where
   pub same-standing : run limit cs .standing ≡ run 2_399 cs .standing
+  pub same-history : run limit cs .history ≡ run 2_399 cs .history
   pub same-told : run limit cs .told ≡ run 2_399 cs .told
   pub same-posts : (s : List ℕ) → post (run limit cs) s .answer ≡ post (run 2_399 cs) s .answer
   pub same-turns : (m : ℕ) → turn (run limit cs) m .answer ≡ turn (run 2_399 cs) m .answer
+  pub same-withdrawals : withdraw (run limit cs) .answer ≡ withdraw (run 2_399 cs) .answer
   pub closed-or-same :
       (q : Question) → (answerOf (run limit cs) (asks q) .number ≡ 16) ⊎ (answered (run limit cs) q ≡ answered (run 2_399 cs) q)
   pub largest-never-closes : (q : Question) → answerOf (run 2_399 cs) (asks q) .number ≡ 16 → ⊥
 
--- ═══ The count by the answers that a caller saw: the last accepted post's sheet, the last accepted turn's month or 0
+-- ═══ A withdrawal is answered 18 exactly when the count's depth is 0, and is accepted otherwise
 
-abbrev pub sheetAfter : Outcome ℕ → List ℕ → LastSheet → LastSheet
-sheetAfter (done m) s last = posted s
-sheetAfter (refused g) s last = last
+pub record Withdraws (limit : ℕ) (cs : List Call) : Type 0 where
+  pub none-left : (withdraw (run limit cs) .answer ≡ refused noPostLeft) ↔ (count cs .depth ≡ 0)
+  pub some-left : 0 < count cs .depth → withdraw (run limit cs) .answer ≡ done tt
+  pub at-most-three : count cs .depth ≤ 3
+
+-- ═══ Three deep: whatever was called before, as many withdrawals as accepted posts, up to three, bring back what stood before these posts
+
+-- each accepted in its turn
+abbrev pub AllAccepted : Book → List (List ℕ) → Type 0
+AllAccepted b [] = Unit {0}
+AllAccepted b (s ∷ ss) = ((m : ℕ) × (post b s .answer ≡ done m)) × AllAccepted (post b s .book) ss
+
+-- the curves and the sheet, thus its month; and the told month remains
+pub record BackAt (before now : Book) : Type 0 where
+  pub same-curves : now .standing ≡ before .standing
+  pub same-sheet : now .history .sheet ≡ before .history .sheet
+  pub same-told : now .told ≡ before .told
+
+abbrev pub ThreeDeep : ℕ → List Call → Type 0
+ThreeDeep limit cs = (ss : List (List ℕ)) → length ss ≤ 3 → AllAccepted (run limit cs) ss →
+    BackAt (run limit cs) (runFrom (run limit cs) (map postOf ss ++ replicate (length ss) withdrawal))
+
+-- ═══ The count by the answers that a caller saw: the accepted posts' sheets, each accepted withdrawal taking the latest off; the last
+-- accepted turn's month or 0
+
+abbrev pub postsAfter : Outcome ℕ → List ℕ → List (List ℕ) → List (List ℕ)
+postsAfter (done m) s ss = s ∷ ss
+postsAfter (refused g) s ss = ss
+
+abbrev pub postsLeft : Outcome (Unit {0}) → List (List ℕ) → List (List ℕ)
+postsLeft (done x) ss = drop 1 ss
+postsLeft (refused g) ss = ss
 
 abbrev pub toldAfter : Outcome ℕ → ℕ → ℕ
 toldAfter (done m) t = m
 toldAfter (refused g) t = t
 
-abbrev pub lastPosted : Book → LastSheet → List Call → LastSheet
-lastPosted b last [] = last
-lastPosted b last (postOf s ∷ cs) = lastPosted (post b s .book) (sheetAfter (post b s .answer) s last) cs
-lastPosted b last (turnTo m ∷ cs) = lastPosted (turn b m .book) last cs
-lastPosted b last (asks q ∷ cs) = lastPosted b last cs
+abbrev pub lastPosts : Book → List (List ℕ) → List Call → List (List ℕ)
+lastPosts b ss [] = ss
+lastPosts b ss (postOf s ∷ cs) = lastPosts (post b s .book) (postsAfter (post b s .answer) s ss) cs
+lastPosts b ss (turnTo m ∷ cs) = lastPosts (turn b m .book) ss cs
+lastPosts b ss (withdrawal ∷ cs) = lastPosts (withdraw b .book) (postsLeft (withdraw b .answer) ss) cs
+lastPosts b ss (asks q ∷ cs) = lastPosts b ss cs
 
 abbrev pub lastTold : Book → ℕ → List Call → ℕ
 lastTold b t [] = t
 lastTold b t (postOf s ∷ cs) = lastTold (post b s .book) t cs
 lastTold b t (turnTo m ∷ cs) = lastTold (turn b m .book) (toldAfter (turn b m .answer) t) cs
+lastTold b t (withdrawal ∷ cs) = lastTold (withdraw b .book) t cs
 lastTold b t (asks q ∷ cs) = lastTold b t cs
 
 pub record CountIsLast (limit : ℕ) (cs : List Call) : Type 0 where
-  pub last-sheet : count cs .sheet ≡ lastPosted (fresh limit) unposted cs
+  pub last-posts : count cs .posts ≡ lastPosts (fresh limit) [] cs
   pub last-month : count cs .told ≡ lastTold (fresh limit) 0 cs
 
 -- ═══ Demand 1: the result or the first ground that applies; a refusal changes nothing
@@ -127,6 +160,9 @@ postGrounds b s =
 unfoldable pub turnGrounds : Book → ℕ → List Applies
 turnGrounds b m = when (ltb 2_399 m) monthAboveLast ∷ when (ltb m (b .told)) monthBeforeTold ∷ []
 
+unfoldable pub withdrawGrounds : Book → List Applies
+withdrawGrounds b = when (eqb (length (b .history .below)) 0) noPostLeft ∷ []
+
 unfoldable pub lookGrounds : Book → Which → ℕ → List Applies
 lookGrounds b w y =
     let k = named w (b .standing) in
@@ -154,22 +190,33 @@ abbrev pub monthIn : Outcome Curves → Outcome ℕ
 monthIn (refused g) = refused g
 monthIn (done cs) = done (cs .plain .month)
 
+-- the book with this told month and nothing else changed
+abbrev pub turnedTo : Book → ℕ → Book
+turnedTo b m = record { ageLimit = b .ageLimit; told = m; standing = b .standing; history = b .history }
+
 pub record Demand1 (b : Book) : Type 0 where
   pub post-first : (s : List ℕ) → post b s .answer ≡ monthIn (first (postGrounds b s) (curvesOf (sheetNumbers s)))
   pub post-refused : (s : List ℕ) (g : Ground) → post b s .answer ≡ refused g → post b s .book ≡ b
   pub turn-first : (m : ℕ) → turn b m .answer ≡ first (turnGrounds b m) (done m)
   pub turn-refused : (m : ℕ) (g : Ground) → turn b m .answer ≡ refused g → turn b m .book ≡ b
-  pub turn-told : (m k : ℕ) → turn b m .answer ≡ done k → turn b m .book ≡ record { ageLimit = b .ageLimit; told = m; standing = b .standing }
+  pub turn-told : (m k : ℕ) → turn b m .answer ≡ done k → turn b m .book ≡ turnedTo b m
+  pub withdraw-first : withdraw b .answer ≡ first (withdrawGrounds b) (done tt)
+  pub withdraw-refused : (g : Ground) → withdraw b .answer ≡ refused g → withdraw b .book ≡ b
+  pub withdraw-told : withdraw b .book .told ≡ b .told
   pub look-first : (w : Which) (y : ℕ) → lookUp b w y ≡ first (lookGrounds b w y) (done (foundIn (b .told) (named w (b .standing)) y))
   pub page-first : (w : Which) (l : List ℕ) → page b w l .answer ≡ first (pageGrounds b w l) (done tt)
   pub page-refused : (w : Which) (l : List ℕ) (g : Ground) → page b w l .answer ≡ refused g → page b w l .buffer ≡ l
 
--- ═══ Demand 2: a post accepts precisely the sheets, and stores precisely the numbers, that the definitions give; a
--- page carries exactly the book's numbers
+-- ═══ Demand 2: a post accepts precisely the sheets, and stores precisely the numbers, that the definitions give; a withdrawal brings
+-- precisely them back; a page carries exactly the book's numbers
 
--- the book with these curves in place of its own
-abbrev pub holding : Book → Curves → Book
-holding b cs = record { ageLimit = b .ageLimit; told = b .told; standing = some cs }
+-- the book with these curves, of this sheet, and these ways back in place of its own
+abbrev pub holding : Book → Standing → Held (List ℕ) → List (Held (List ℕ)) → Book
+holding b k h hs = record { ageLimit = b .ageLimit; told = b .told; standing = k; history = record { sheet = h; below = hs } }
+
+-- after a post what stood is the first of the ways back, of which three are kept
+abbrev pub holdingPost : Book → List ℕ → Curves → Book
+holdingPost b s cs = holding b (some cs) (some s) (take 3 (b .history .sheet ∷ b .history .below))
 
 -- a sheet that passes 1 to 4, whose month is told and not before the standing one, and whose numbers work
 pub record Accepted (b : Book) (s : List ℕ) (cs : Curves) : Type 0 where
@@ -193,10 +240,15 @@ FitsPage b = (w : Which) (c : Curve) → named w (b .standing) ≡ some c → Cu
 
 pub record Demand2 (b : Book) : Type 0 where
   -- whatever passes is accepted, and its curves are stored
-  pub accepts : (s : List ℕ) (cs : Curves) → Accepted b s cs → post b s ≡ record { book = holding b cs; answer = done (cs .plain .month) }
+  pub accepts : (s : List ℕ) (cs : Curves) → Accepted b s cs → post b s ≡ record { book = holdingPost b s cs; answer = done (cs .plain .month) }
   -- and nothing else is
   pub accepts-only :
-      (s : List ℕ) (m : ℕ) → post b s .answer ≡ done m → (cs : Curves) × Accepted b s cs × (post b s .book ≡ holding b cs) × (cs .plain .month ≡ m)
+      (s : List ℕ) (m : ℕ) → post b s .answer ≡ done m → (cs : Curves) × Accepted b s cs × (post b s .book ≡ holdingPost b s cs) × (cs .plain .month ≡ m)
+  -- the sheet that stood before works as it did; where none did, there is no curve
+  pub brings-back :
+      (s : List ℕ) (cs : Curves) (hs : List (Held (List ℕ))) → b .history .below ≡ some s ∷ hs → answer s ≡ done cs →
+      withdraw b ≡ record { book = holding b (some cs) (some s) hs; answer = done tt }
+  pub brings-none : (hs : List (Held (List ℕ))) → b .history .below ≡ none ∷ hs → withdraw b ≡ record { book = holding b none none hs; answer = done tt }
   pub pages :
       (w : Which) (c : Curve) (l : List ℕ) → named w (b .standing) ≡ some c → CurveFits (b .told) c → b .told - c .month ≤ b .ageLimit → 1_505 ≤ length l →
       PageWritten l (c .month) (b .told - c .month) (λ y. pair (lowOf c y) (highOf c y)) (page b w l)

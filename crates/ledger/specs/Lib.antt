@@ -1,5 +1,6 @@
 pub mod Answers
 pub mod Page
+pub mod History
 pub mod Book
 pub mod Calls
 pub mod Count

@@ -17,18 +17,18 @@ use Rattle.zero_rates.specs.Meaning.{BandRates, HighRateExists, RateBetween}
 use Rattle.ledger.specs.Answers.{Finding}
 use Rattle.ledger.specs.Book.{Paged}
 use Rattle.ledger.specs.Calls.{Question, lookAt, pageInto, AnswerTo}
-use Rattle.ledger.specs.Count.{LastSheet, unposted, posted, Count, monthOf, limitOf, carries, typed}
+use Rattle.ledger.specs.Count.{Count, lastSheet, monthOf, limitOf, carries, typed}
 
 -- ---- the curve that is named
 
--- no post was accepted, or its sheet has no adjustment and the adjusted curve is named
-abbrev pub missing : Which → LastSheet → Bool
-missing w unposted = true
-missing w (posted s) = not (carries w s)
+-- no accepted post is left, or the last one's sheet has no adjustment and the adjusted curve is named
+abbrev pub missing : Which → Held (List ℕ) → Bool
+missing w none = true
+missing w (some s) = not (carries w s)
 
--- otherwise the last accepted sheet carries it
+-- otherwise the sheet of the last accepted post not withdrawn carries it
 abbrev pub Carries : Count → Which → List ℕ → Type 0
-Carries c w s = (c .sheet ≡ posted s) × (carries w s ≡ true)
+Carries c w s = (lastSheet c ≡ some s) × (carries w s ≡ true)
 
 -- ---- a year's band
 
@@ -78,8 +78,8 @@ pub record Finds (c : Count) (w : Which) (s : List ℕ) (y : ℕ) (a : Outcome F
 pub record LookTells (limit : ℕ) (c : Count) (w : Which) (y : ℕ) (a : Outcome Finding) : Type 0 where
   pub outside : (1 ≤ y → y ≤ 150 → ⊥) → a ≡ refused yearOutside
   -- no curve exactly when it is missing
-  pub none-found : 1 ≤ y → y ≤ 150 → (a ≡ refused noCurve) ↔ (missing w (c .sheet) ≡ true)
-  -- otherwise the last accepted sheet's band, rates, month and age, within the age limit and where the year has a high rate
+  pub none-found : 1 ≤ y → y ≤ 150 → (a ≡ refused noCurve) ↔ (missing w (lastSheet c) ≡ true)
+  -- otherwise that sheet's band, rates, month and age, within the age limit and where the year has a high rate
   pub finds :
       (s : List ℕ) → Carries c w s → c .told - monthOf s ≤ limit → 1 ≤ y → y ≤ 150 →
       HighRateExists y (bandOf w s y .low) → Finds c w s y a
@@ -116,7 +116,7 @@ pub record PageWritten (l : List ℕ) (month age : ℕ) (band : ℕ → Pair) (p
 
 pub record PageTells (limit : ℕ) (c : Count) (w : Which) (l : List ℕ) (p : Paged) : Type 0 where
   pub untouched : (g : Ground) → p .answer ≡ refused g → p .buffer ≡ l
-  pub none-found : (p .answer ≡ refused noCurve) ↔ (missing w (c .sheet) ≡ true)
+  pub none-found : (p .answer ≡ refused noCurve) ↔ (missing w (lastSheet c) ≡ true)
   -- of an older curve the 16 alone, however long the buffer
   pub too-old : (s : List ℕ) → Carries c w s → limit < c .told - monthOf s → p .answer ≡ refused ageAboveLimit
   pub too-short : (s : List ℕ) → Carries c w s → c .told - monthOf s ≤ limit → length l < 1_505 → p .answer ≡ refused bufferTooShort
