@@ -1,21 +1,32 @@
 -- What each call comes to, test by test; and a call turned down, whose book is as it was.
 use mathlib.Core.Path.{_≡_, refl, sym, ap, _∙_}
 use mathlib.Core.Bool.{Bool, true, false, not, cond, _&&_}
-use mathlib.Core.List.{List}
-use Prim.Native.Nat.{ℕ, _≤_, _<_}
+use mathlib.Core.List.{List, []}
+use Prim.Native.Nat.{ℕ, zero, suc, _≤_, _<_, min}
+use native.Mathlib.Omega.{arith}
 use borrow.Author.Tests.{le-leb, lt-leb}
-use lib.Dec.{leb}
-use Rattle.method.specs.Grounds.{Ground, afterToldMonth, beforeStandingCurve, monthAboveLast, monthBeforeTold, refused, done}
-use Rattle.method.specs.Sheet.{Numbers, readSheet}
+use lib.Dec.{leb, eqb, eqb·suc-zero}
+use lib.ListN.{length, take}
+use lib.Seq.{take-all}
+use Rattle.method.specs.Grounds.{Ground, afterToldMonth, beforeStandingCurve, monthAboveLast, monthBeforeTold}
+use Rattle.method.specs.Grounds.{Outcome, refused, done}
+use Rattle.method.specs.Sheet.{Numbers, readSheet, layoutOf}
 use Rattle.method.specs.Units.{plain, adjusted}
-use Rattle.method.specs.Curve.{Curves, none, some, curvesOf}
+use Rattle.method.specs.Curve.{Curves, none, some, curvesOf, answer}
+use Rattle.method.proofs.Reading.{read-passes}
+use Rattle.method.proofs.Layouts.{sizeBy, size-is, any-length}
+use Rattle.ledger.specs.History.{History, wayBack}
 use Rattle.ledger.specs.Book as ledger
-use Rattle.ledger.specs.Book.{Booked, named, notBefore, postOutcome, post, turnOutcome, withTold, turn, openCurve}
+use Rattle.ledger.specs.Book.{Booked, booked, named, notBefore, postOutcome, post, turnOutcome, withTold, turn, ifWorked, standingOf}
+use Rattle.ledger.specs.Book.{withHistory, withdraw, openCurve}
+use Rattle.ledger.proofs.Ways.{take-both}
 use Rattle.grounds.specs.declared.Ground as grounds
 use Rattle.grounds.specs.declared.Verdict.{Verdict}
 use Rattle.grounds.specs.declared.Verdict.the-variants.{Refused}
 use Rattle.grounds.specs.Verdicts.{asGround, asOutcome, resultOr}
 use Rattle.grounds.proofs.Chain.{at-verdict}
+use Rattle.history.specs.declared.Kept.{Kept}
+use Rattle.history.specs.Views.{longest, keptBytes, asKept}
 use Rattle.curve.specs.declared.Curve as curve
 use Rattle.curve.specs.declared.Curves as curves
 use Rattle.curve.specs.Curves.{asCurve, asHeld}
@@ -23,23 +34,23 @@ use Rattle.book.specs.declared.Book as code
 use Rattle.book.specs.declared.Booked as reply
 use Rattle.book.specs.declared.Which.{Which}
 use Rattle.book.specs.declared.Which.the-variants.{Plain, Adjusted}
-use Rattle.book.specs.Views.{asWhich, asStanding, asBook, asBooked}
-use Rattle.book.specs.Steps.{posted, afterReading, Opens}
+use Rattle.book.specs.Views.{asWhich, standingIf, asStanding, asBook, asBooked}
+use Rattle.book.specs.Steps.{Fits, posted, afterReading, Opens}
 
 -- ---- a call that is turned down
 
-abbrev pub kept : ledger.Book → Ground → Booked
+abbrev pub kept : {A : Type 0} → ledger.Book → Ground → Booked A
 kept b g = record { book = b; answer = refused g }
 
-abbrev seen : code.Book → Verdict → ℕ → Booked
+abbrev seen : code.Book → Verdict → ℕ → Booked ℕ
 seen b v m = record { book = asBook b; answer = asOutcome v m }
 
-pub down : {r : reply.Booked} {b : code.Book} {v : Verdict} {g : grounds.Ground} {o : Booked} → (r .verdict ≡ v) × ((r .month ≡ 0) × (r .book ≡ b)) →
+pub down : {r : reply.Booked} {b : code.Book} {v : Verdict} {g : grounds.Ground} {o : Booked ℕ} → (r .verdict ≡ v) × ((r .month ≡ 0) × (r .book ≡ b)) →
     v ≡ Refused g → o ≡ kept (asBook b) (asGround g) → (asBooked r ≡ o) × (r .month ≡ resultOr 0 (o .answer))
-down {r} {b} (e, (zero, same)) h o =
+down {r} {b} (e, (no-month, same)) h o =
     let book = ap (λ (x : code.Book). seen x (r .verdict) (r .month)) same in
     let verdict = ap (λ (x : Verdict). seen b x (r .month)) (e ∙ h) in
-    (book ∙ verdict ∙ sym o, zero ∙ ap (λ (p : Booked). resultOr 0 (p .answer)) (sym o))
+    (book ∙ verdict ∙ sym o, no-month ∙ ap (λ (p : Booked ℕ). resultOr 0 (p .answer)) (sym o))
 
 -- ---- the flag beside the curve, and a test that the code negates
 
@@ -60,35 +71,35 @@ vacant has c e = rw (not-so has e)
 -- ---- the flags beside the curves
 
 module _ (has : Bool) (cs : curves.Curves) where
-  pub named-plain : named plain (asStanding has cs) ≡ asHeld has (cs .plain)
+  pub named-plain : named plain (standingIf has cs) ≡ asHeld has (cs .plain)
   named-plain = go has
     where
-      go : (t : Bool) → named plain (asStanding t cs) ≡ asHeld t (cs .plain)
+      go : (t : Bool) → named plain (standingIf t cs) ≡ asHeld t (cs .plain)
       go true = refl
       go false = refl
 
-  pub named-adjusted : named adjusted (asStanding has cs) ≡ asHeld (has && cs .adjusts) (cs .adjusted)
+  pub named-adjusted : named adjusted (standingIf has cs) ≡ asHeld (has && cs .adjusts) (cs .adjusted)
   named-adjusted = go has
     where
-      go : (t : Bool) → named adjusted (asStanding t cs) ≡ asHeld (t && cs .adjusts) (cs .adjusted)
+      go : (t : Bool) → named adjusted (standingIf t cs) ≡ asHeld (t && cs .adjusts) (cs .adjusted)
       go true = refl
       go false = refl
 
-  pub order-is : (month : ℕ) → cond has (leb (cs .plain .month) month) true ≡ notBefore (asStanding has cs) month
+  pub order-is : (month : ℕ) → cond has (leb (cs .plain .month) month) true ≡ notBefore (standingIf has cs) month
   order-is month = go has
     where
-      go : (t : Bool) → cond t (leb (cs .plain .month) month) true ≡ notBefore (asStanding t cs) month
+      go : (t : Bool) → cond t (leb (cs .plain .month) month) true ≡ notBefore (standingIf t cs) month
       go true = refl
       go false = refl
 
 -- what a call names
 module _ (b : code.Book) (w : Which) where
-  pub plain-named : w ≡ Plain → named (asWhich w) (asBook b .standing) ≡ asHeld (b .has) (b .curves .plain)
-  plain-named e = rw e (named-plain (b .has) (b .curves))
+  pub plain-named : w ≡ Plain → named (asWhich w) (asBook b .standing) ≡ asHeld (b .standing .has) (b .standing .curves .plain)
+  plain-named e = rw e (named-plain (b .standing .has) (b .standing .curves))
 
-  pub adjusted-named : w ≡ Adjusted → {t : Bool} → t ≡ (b .has && b .curves .adjusts) →
-      named (asWhich w) (asBook b .standing) ≡ asHeld t (b .curves .adjusted)
-  adjusted-named e s = rw (e, s) (named-adjusted (b .has) (b .curves))
+  pub adjusted-named : w ≡ Adjusted → {t : Bool} → t ≡ (b .standing .has && b .standing .curves .adjusts) →
+      named (asWhich w) (asBook b .standing) ≡ asHeld t (b .standing .curves .adjusted)
+  adjusted-named e s = rw (e, s) (named-adjusted (b .standing .has) (b .standing .curves))
 
 -- ---- what was asked of the curve: w is what a match found the verdict to be
 
@@ -103,23 +114,33 @@ module _ (b : ledger.Book) (s : List ℕ) where
   unfolding post postOutcome
   post-refused e = rw e
 
-  pub post-read : {n : Numbers} → readSheet s ≡ done n → post b s ≡ posted b (afterReading b n)
+  pub post-read : {n : Numbers} → readSheet s ≡ done n → post b s ≡ posted b s (afterReading b n)
   unfolding post postOutcome
   post-read e = rw e
 
-module _ (b : ledger.Book) (n : Numbers) where
-  pub after-told : b .told < n .month → posted b (afterReading b n) ≡ kept b afterToldMonth
+module _ (b : ledger.Book) (s : List ℕ) (n : Numbers) where
+  pub after-told : b .told < n .month → posted b s (afterReading b n) ≡ kept b afterToldMonth
   after-told h = rw (lt-leb (n .month) (b .told) h)
 
-  pub before-standing : n .month ≤ b .told → notBefore (b .standing) (n .month) ≡ false → posted b (afterReading b n) ≡ kept b beforeStandingCurve
+  pub before-standing : n .month ≤ b .told → notBefore (b .standing) (n .month) ≡ false → posted b s (afterReading b n) ≡ kept b beforeStandingCurve
   before-standing h k = rw (le-leb (n .month) (b .told) h, k)
 
   module _ (h : n .month ≤ b .told) (k : notBefore (b .standing) (n .month) ≡ true) where
-    pub curve-refused : {g : Ground} → curvesOf n ≡ refused g → posted b (afterReading b n) ≡ kept b g
+    pub curve-refused : {g : Ground} → curvesOf n ≡ refused g → posted b s (afterReading b n) ≡ kept b g
     curve-refused e = rw (le-leb (n .month) (b .told) h, k, e)
 
-    pub curve-worked : {cs : Curves} → curvesOf n ≡ done cs → posted b (afterReading b n) ≡ posted b (done cs)
+    pub curve-worked : {cs : Curves} → curvesOf n ≡ done cs → posted b s (afterReading b n) ≡ posted b s (done cs)
     curve-worked e = rw (le-leb (n .month) (b .told) h, k, e)
+
+-- an accepted sheet can be kept: it has 109 bytes, 112 or 115
+pub read-fits : (s : List ℕ) {n : Numbers} → readSheet s ≡ done n → Fits s
+read-fits s {n} e = go (layoutOf s .phased) (layoutOf s .adjusts) (read-passes s n e .long ∙ size-is (layoutOf s))
+  where
+    go : (phased adjusts : Bool) → length s ≡ sizeBy phased adjusts → Fits s
+    go true true h = (omega (arith, h), omega (arith, h))
+    go true false h = (omega (arith, h), omega (arith, h))
+    go false true h = (omega (arith, h), omega (arith, h))
+    go false false h = (omega (arith, h), omega (arith, h))
 
 -- ---- turn
 
@@ -138,5 +159,57 @@ module _ (b : ledger.Book) (m : ℕ) where
 
 -- ---- a call that is accepted
 
-abbrev pub saying : ledger.Book → ℕ → Booked
+-- with other curves and another history
+abbrev pub holding : code.Book → ledger.Standing → History → ledger.Book
+holding b k h = record { ageLimit = b .«age_limit»; told = b .told; standing = k; history = h }
+
+abbrev pub saying : {A : Type 0} → ledger.Book → A → Booked A
 saying b m = record { book = b; answer = done m }
+
+-- ---- withdrawal
+
+module _ (s : List ℕ) where
+  pub not-read : {g : Ground} → readSheet s ≡ refused g → none ≡ ifWorked (answer s)
+  unfolding answer
+  not-read e = rw e
+
+  module _ {n : Numbers} (read : readSheet s ≡ done n) where
+    pub not-worked : {g : Ground} → curvesOf n ≡ refused g → none ≡ ifWorked (answer s)
+    unfolding answer
+    not-worked e = rw (read, e)
+
+    pub worked-to : {cs : Curves} → curvesOf n ≡ done cs → some cs ≡ ifWorked (answer s)
+    unfolding answer
+    worked-to e = rw (read, e)
+
+-- no bytes are no sheet
+none-works : ifWorked (answer []) ≡ none
+unfolding answer readSheet
+none-works = rw (any-length [])
+
+-- a length past the bytes is cut to them
+kept-front : (k : Kept) (n : ℕ) → n ≡ min (k .length) longest → length (k .bytes) ≡ longest → take n (k .bytes) ≡ keptBytes k
+kept-front k n e long =
+    ap (λ (m : ℕ). take m (k .bytes)) e
+    ∙ sym (take-both (k .length) longest (k .bytes))
+    ∙ ap (take (k .length)) (take-all longest (k .bytes) (omega (arith, long)))
+
+pub kept-works : (k : Kept) (n : ℕ) → n ≡ min (k .length) longest → length (k .bytes) ≡ longest →
+    ifWorked (answer (take n (k .bytes))) ≡ standingOf (asKept k)
+kept-works k n e long = ap (λ (s : List ℕ). ifWorked (answer s)) (kept-front k n e long) ∙ go (k .length)
+  where
+    go : (m : ℕ) → ifWorked (answer (take m (k .bytes))) ≡ standingOf (cond (eqb m 0) none (some (take m (k .bytes))))
+    go zero = none-works
+    go (suc m) = rw (eqb·suc-zero m)
+
+abbrev withdrawn : ledger.Book → Outcome History → Booked (Unit {0})
+withdrawn b o = booked b (withHistory b) (λ h. tt) o
+
+module _ (b : ledger.Book) where
+  pub withdrawal-refused : {g : Ground} → wayBack (b .history .below) ≡ refused g → withdraw b ≡ kept b g
+  unfolding withdraw
+  withdrawal-refused e = ap (withdrawn b) e
+
+  pub withdrawal-done : {h : History} → wayBack (b .history .below) ≡ done h → withdraw b ≡ saying (withHistory b h) tt
+  unfolding withdraw
+  withdrawal-done e = ap (withdrawn b) e

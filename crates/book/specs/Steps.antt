@@ -2,8 +2,9 @@
 use mathlib.Core.Bool.{Bool}
 use mathlib.Core.List.{List}
 use mathlib.Core.Path.{_≡_}
-use Prim.Native.Nat.{ℕ}
+use Prim.Native.Nat.{ℕ, _≤_, _<_}
 use lib.Dec.{leb}
+use lib.ListN.{length}
 use Rattle.method.specs.Grounds.{afterToldMonth, beforeStandingCurve, Outcome, done, _>>=_, demand}
 use Rattle.method.specs.Sheet.{Numbers}
 use Rattle.method.specs.Curve.{Curve, Curves, curvesOf}
@@ -12,6 +13,7 @@ use Rattle.ledger.specs.Answers.{Finding, finding}
 use Rattle.ledger.specs.Book.{Book, Booked, booked, notBefore, withCurves, age, openCurve, bandAt, Paged, pageIn}
 use Rattle.grounds.specs.declared.Verdict.{Verdict}
 use Rattle.grounds.specs.Verdicts.{asOutcome}
+use Rattle.history.specs.Views.{longest}
 use Rattle.curve.specs.declared.Curve as code
 use Rattle.curve.specs.Curves.{asCurve, asHeld}
 
@@ -22,8 +24,12 @@ afterReading b n = do
   _ ← demand (notBefore (b .standing) (n .month)) beforeStandingCurve
   curvesOf n
 
-abbrev pub posted : Book → Outcome Curves → Booked
-posted b o = booked b (withCurves b) (λ cs. cs .plain .month) o
+abbrev pub posted : Book → List ℕ → Outcome Curves → Booked ℕ
+posted b s o = booked b (withCurves b s) (λ cs. cs .plain .month) o
+
+-- a sheet that can be kept
+abbrev pub Fits : List ℕ → Type 0
+Fits s = (0 < length s) × (length s ≤ longest)
 
 -- whether a curve may be shown, for which its month is all that counts: 14, then 16
 abbrev pub Opens : Bool → ℕ → ℕ → ℕ → Verdict → Type 0

@@ -9,15 +9,17 @@ use Rattle.method.specs.Curve.{none, some}
 use Rattle.ledger.specs.Answers as answer
 use Rattle.ledger.specs.Answers.{finding}
 use Rattle.ledger.specs.Book as ledger
-use Rattle.ledger.specs.Book.{Standing}
 use Rattle.grounds.specs.declared.Verdict.{Verdict}
 use Rattle.grounds.specs.Verdicts.{asOutcome}
 use Rattle.curve.specs.declared.Curves.{Curves}
 use Rattle.curve.specs.Curves.{asCurves}
 use Rattle.book.specs.declared.Which.{Which}
 use Rattle.book.specs.declared.Which.the-variants as which
+use Rattle.history.specs.Views.{asHistory}
+use Rattle.book.specs.declared.Standing.{Standing}
 use Rattle.book.specs.declared.Book.{Book}
 use Rattle.book.specs.declared.Booked.{Booked}
+use Rattle.book.specs.declared.Withdrawn.{Withdrawn}
 use Rattle.book.specs.declared.Finding.{Finding}
 
 abbrev pub asWhich : Which → method.Which
@@ -25,15 +27,21 @@ asWhich which.Plain = method.Which.plain
 asWhich which.Adjusted = method.Which.adjusted
 
 -- a flag beside the curves
-abbrev pub asStanding : Bool → Curves → Standing
-asStanding true cs = some (asCurves cs)
-asStanding false cs = none
+abbrev pub standingIf : Bool → Curves → ledger.Standing
+standingIf true cs = some (asCurves cs)
+standingIf false cs = none
+
+abbrev pub asStanding : Standing → ledger.Standing
+asStanding k = standingIf (k .has) (k .curves)
 
 abbrev pub asBook : Book → ledger.Book
-asBook b = record { ageLimit = b .«age_limit»; told = b .told; standing = asStanding (b .has) (b .curves) }
+asBook b = record { ageLimit = b .«age_limit»; told = b .told; standing = asStanding (b .standing); history = asHistory (b .history) }
 
-abbrev pub asBooked : Booked → ledger.Booked
+abbrev pub asBooked : Booked → ledger.Booked ℕ
 asBooked r = record { book = asBook (r .book); answer = asOutcome (r .verdict) (r .month) }
+
+abbrev pub asWithdrawn : Withdrawn → ledger.Booked (Unit {0})
+asWithdrawn r = record { book = asBook (r .book); answer = asOutcome (r .verdict) tt }
 
 abbrev pub asFinding : Finding → answer.Finding
 asFinding f = finding (pair (f .low) (f .high)) (signedPair (f .«low_rate») (f .«high_rate»)) (f .month) (f .age)

@@ -1,9 +1,11 @@
-// The dated curve book: its age limit, the told month, and the curves of the last accepted sheet. No other crate can build a book or
-// read one, so each came from a list of calls that began with `fresh`.
+// The dated curve book: its age limit, the told month, the curves that stand, and the sheets that withdrawals bring back. No other crate
+// can build a book or read one, so each came from a list of calls that began with `fresh`.
 use curve::Curve;
 use curve::Curves;
 use grounds::Ground;
 use grounds::Verdict;
+use history::History;
+use history::Kept;
 use sheet::Numbers;
 ghost use mathlib.Core.Path.{_≡_};
 ghost use mathlib.Core.Bool.{true, cond, _&&_};
@@ -11,23 +13,30 @@ ghost use Prim.Native.Nat.{_-_, _≤_};
 ghost use lib.Dec.{leb};
 ghost use Rattle.method.specs.Grounds.{done};
 ghost use Rattle.method.specs.Ranges.{NumbersInRange};
-ghost use Rattle.ledger.specs.Book.{fresh, withTold, post, turn, lookIn, lookUp, page};
+ghost use Rattle.method.specs.Curve.{none, answer};
+ghost use Rattle.ledger.specs.Book.{fresh, withTold, post, turn, ifWorked, standingOf, withHistory, withdraw, lookIn, lookUp, page};
 ghost use Rattle.page_writer.specs.Written.{Bands};
 ghost use Rattle.grounds.specs.Verdicts.{asOutcome, resultOr};
 ghost use Rattle.sheet.specs.Views.{asNumbers};
 ghost use Rattle.curve.specs.Curves.{asCurve, asHeld, asCurves};
-ghost use Rattle.book.specs.Views.{asWhich, asBook, asBooked, asFinding, noFinding, asPaged};
-ghost use Rattle.book.specs.Steps.{posted, afterReading, Opens, foundAt, Pages};
+ghost use Rattle.history.specs.Views.{asKept, asHistory};
+ghost use Rattle.book.specs.Views.{asWhich, asStanding, asBook, asBooked, asWithdrawn, asFinding, noFinding, asPaged};
+ghost use Rattle.book.specs.Steps.{Fits, posted, afterReading, Opens, foundAt, Pages};
 
 // No curve can be older, as no month after 2,399 can be told.
 pub const LARGEST_AGE_LIMIT: u64 = 2_399;
 
 // Without `has` the curves are all zero and stand for none.
+pub struct Standing {
+    has: bool,
+    curves: Curves,
+}
+
 pub struct Book {
     age_limit: u64,
     told: u64,
-    has: bool,
-    curves: Curves,
+    standing: Standing,
+    history: History,
 }
 
 // The curve that a look-up or a page names.
@@ -36,10 +45,15 @@ pub enum Which {
     Adjusted,
 }
 
-// A call that may change the book. The month is 0 where it is refused.
+// A post or a turn. The month is 0 where it is refused.
 pub struct Booked {
     pub verdict: Verdict,
     pub month: u64,
+    pub book: Book,
+}
+
+pub struct Withdrawn {
+    pub verdict: Verdict,
     pub book: Book,
 }
 
@@ -59,6 +73,19 @@ pub struct Looked {
     pub finding: Finding,
 }
 
+fn nothing_stands() -> Standing
+    ensures { λ r. ⌜ asStanding r ≡ none ⌝ }
+{
+    Standing {
+        has: false,
+        curves: Curves {
+            plain: curve::no_curve(),
+            adjusts: false,
+            adjusted: curve::no_curve(),
+        },
+    }
+}
+
 // Any number makes a book; one above the largest limit, a book with that.
 pub fn fresh(age_limit: u64) -> Book
     ensures { λ r. ⌜ asBook r ≡ fresh «age_limit» ⌝ }
@@ -66,12 +93,8 @@ pub fn fresh(age_limit: u64) -> Book
     Book {
         age_limit: rounding::smaller(age_limit, LARGEST_AGE_LIMIT),
         told: 0,
-        has: false,
-        curves: Curves {
-            plain: curve::no_curve(),
-            adjusts: false,
-            adjusted: curve::no_curve(),
-        },
+        standing: nothing_stands(),
+        history: history::no_posts(),
     }
 }
 
@@ -90,20 +113,25 @@ fn turned_down(book: Book, verdict: Verdict) -> Booked
 
 // ---- post
 
-// The curves and their month are replaced.
-fn accepted(book: Book, curves: Curves) -> Booked
-    ensures booked { λ r. ⌜ asBooked r ≡ posted (asBook book) (done (asCurves curves)) ⌝ }
+// The curves and their month are replaced, and what stood can be had back.
+fn accepted(book: Book, curves: Curves, sheet: &[u8]) -> Booked
+    requires { ⌜ Fits (now sheet) ⌝ }
+    ensures booked { λ r. ⌜ asBooked r ≡ posted (asBook book) (now (sheet .entry)) (done (asCurves curves)) ⌝ }
     ensures beside { λ r. ⌜ r .month ≡ curves .plain .month ⌝ }
 {
     let month = curves.plain.month;
+    let stood = book.history;
     Booked {
         verdict: Verdict::Passed,
         month: month,
         book: Book {
             age_limit: book.age_limit,
             told: book.told,
-            has: true,
-            curves: curves,
+            standing: Standing {
+                has: true,
+                curves: curves,
+            },
+            history: history::with_post(stood, sheet),
         },
     }
 }
@@ -115,16 +143,16 @@ fn not_before(has: bool, standing: u64, month: u64) -> bool
     if has { standing <= month } else { true }
 }
 
-// 5 and 6, then 7 to 10.
-fn post_numbers(book: Book, n: Numbers) -> Booked
-    requires { ⌜ NumbersInRange (asNumbers n) ⌝ }
-    ensures booked { λ r. ⌜ asBooked r ≡ posted (asBook book) (afterReading (asBook book) (asNumbers n)) ⌝ }
-    ensures beside { λ r. ⌜ r .month ≡ resultOr 0 (posted (asBook book) (afterReading (asBook book) (asNumbers n)) .answer) ⌝ }
+// 5 and 6, then 7 to 10, on the numbers of the sheet.
+fn post_numbers(book: Book, n: Numbers, sheet: &[u8]) -> Booked
+    requires { ⌜ NumbersInRange (asNumbers n) × Fits (now sheet) ⌝ }
+    ensures booked { λ r. ⌜ asBooked r ≡ posted (asBook book) (now (sheet .entry)) (afterReading (asBook book) (asNumbers n)) ⌝ }
+    ensures beside { λ r. ⌜ r .month ≡ resultOr 0 (posted (asBook book) (now (sheet .entry)) (afterReading (asBook book) (asNumbers n)) .answer) ⌝ }
 {
     if book.told < n.month {
         return turned_down(book, Verdict::Refused(Ground::AfterToldMonth));
     }
-    if !not_before(book.has, book.curves.plain.month, n.month) {
+    if !not_before(book.standing.has, book.standing.curves.plain.month, n.month) {
         return turned_down(book, Verdict::Refused(Ground::BeforeStandingCurve));
     }
     let worked = curve::from_numbers(n);
@@ -133,7 +161,7 @@ fn post_numbers(book: Book, n: Numbers) -> Booked
         return turned_down(book, verdict);
     };
     let curves = worked.curves;
-    accepted(book, curves)
+    accepted(book, curves, sheet)
 }
 
 pub fn post(book: Book, sheet: &[u8]) -> Booked
@@ -146,7 +174,7 @@ pub fn post(book: Book, sheet: &[u8]) -> Booked
         return turned_down(book, verdict);
     };
     let numbers = read.numbers;
-    post_numbers(book, numbers)
+    post_numbers(book, numbers, sheet)
 }
 
 // ---- turn
@@ -173,6 +201,69 @@ pub fn turn(book: Book, month: u64) -> Booked
         verdict: Verdict::Passed,
         month: month,
         book: with_told(book, month),
+    }
+}
+
+// ---- withdrawal
+
+// The curves of a sheet, if it works.
+fn worked(sheet: &[u8]) -> Standing
+    ensures { λ r. ⌜ asStanding r ≡ ifWorked (answer (now (sheet .entry))) ⌝ }
+{
+    let read = sheet::read(sheet);
+    let verdict = read.verdict;
+    let Verdict::Passed = verdict else {
+        return nothing_stands();
+    };
+    let numbers = read.numbers;
+    let made = curve::from_numbers(numbers);
+    let verdict = made.verdict;
+    let Verdict::Passed = verdict else {
+        return nothing_stands();
+    };
+    let curves = made.curves;
+    Standing {
+        has: true,
+        curves: curves,
+    }
+}
+
+// No sheet has no bytes, and these do not work.
+fn stands_again(kept: Kept) -> Standing
+    ensures { λ r. ⌜ asStanding r ≡ standingOf (asKept kept) ⌝ }
+{
+    let length = rounding::smaller(kept.length, history::LONGEST) as usize;
+    let bytes = kept.bytes;
+    worked(&bytes[..length])
+}
+
+fn with_history(book: Book, history: History) -> Book
+    ensures { λ r. ⌜ asBook r ≡ withHistory (asBook book) (asHistory history) ⌝ }
+{
+    let sheet = history.sheet;
+    Book {
+        age_limit: book.age_limit,
+        told: book.told,
+        standing: stands_again(sheet),
+        history: history,
+    }
+}
+
+pub fn withdraw(book: Book) -> Withdrawn
+    ensures { λ r. ⌜ asWithdrawn r ≡ withdraw (asBook book) ⌝ }
+{
+    let back = history::way_back(book.history);
+    let verdict = back.verdict;
+    let Verdict::Passed = verdict else {
+        return Withdrawn {
+            verdict: verdict,
+            book: book,
+        };
+    };
+    let history = back.history;
+    Withdrawn {
+        verdict: Verdict::Passed,
+        book: with_history(book, history),
     }
 }
 
@@ -286,12 +377,12 @@ pub fn look_up(book: Book, which: Which, year: u64) -> Looked
 {
     match which {
         Which::Plain => {
-            let plain = book.curves.plain;
-            look_in(book.has, plain, book.told, book.age_limit, year)
+            let plain = book.standing.curves.plain;
+            look_in(book.standing.has, plain, book.told, book.age_limit, year)
         }
         Which::Adjusted => {
-            let adjusted = book.curves.adjusted;
-            let stands = both(book.has, book.curves.adjusts);
+            let adjusted = book.standing.curves.adjusted;
+            let stands = both(book.standing.has, book.standing.curves.adjusts);
             look_in(stands, adjusted, book.told, book.age_limit, year)
         }
     }
@@ -328,19 +419,19 @@ pub fn page(book: Book, which: Which, out: &mut [u8]) -> Verdict
 {
     match which {
         Which::Plain => page_in(
-            book.has,
-            book.curves.plain.month,
-            &book.curves.plain.years.lows,
-            &book.curves.plain.years.highs,
+            book.standing.has,
+            book.standing.curves.plain.month,
+            &book.standing.curves.plain.years.lows,
+            &book.standing.curves.plain.years.highs,
             book.told,
             book.age_limit,
             out,
         ),
         Which::Adjusted => page_in(
-            both(book.has, book.curves.adjusts),
-            book.curves.adjusted.month,
-            &book.curves.adjusted.years.lows,
-            &book.curves.adjusted.years.highs,
+            both(book.standing.has, book.standing.curves.adjusts),
+            book.standing.curves.adjusted.month,
+            &book.standing.curves.adjusted.years.lows,
+            &book.standing.curves.adjusted.years.highs,
             book.told,
             book.age_limit,
             out,

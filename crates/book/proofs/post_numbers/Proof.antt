@@ -1,7 +1,8 @@
 -- 5, 6, and else what the numbers are worked to.
 use mathlib.Core.Path.{_≡_, refl, sym, ap, _∙_}
 use mathlib.Core.Bool.{true}
-use Prim.Native.Nat.{_≤_}
+use Prim.Native.Nat.{ℕ, _≤_}
+use denote.Ref.{now}
 use Rattle.ledger.specs.Book.{Booked, notBefore}
 use Rattle.grounds.specs.Verdicts.{resultOr}
 use Rattle.grounds.proofs.Chain.{at-verdict}
@@ -18,14 +19,14 @@ module _ (m : tie.Else2) where
   at-month = m .before .before
 
   abbrev start : tie.Start
-  start = at-month .before .before .before
+  start = at-month .before .before .before .before
 
   reached : start .args .n .month ≤ start .args .book .told
   reached = at-month .if1 .left
 
   in-order : notBefore (asBook (start .args .book) .standing) (start .args .n .month) ≡ true
   in-order =
-      sym (order-is (start .args .book .has) (start .args .book .curves) (start .args .n .month))
+      sym (order-is (start .args .book .standing .has) (start .args .book .standing .curves) (start .args .n .month))
       ∙ sym (m .before .not-before .ensures)
       ∙ so (m .before .not-before .result) (m .if2 .left)
 
@@ -35,8 +36,8 @@ turned-down-requires c κs = search needs
 returns : tie.Need-returns
 returns c =
     let at-test = c .before in
-    let a = at-test .before .before .before .args in
-    down (c .turned-down .ensures) refl (after-told (asBook (a .book)) (asNumbers (a .n)) (at-test .if1 .taken))
+    let a = at-test .before .before .before .before .args in
+    down (c .turned-down .ensures) refl (after-told (asBook (a .book)) (now (a .sheet)) (asNumbers (a .n)) (at-test .if1 .taken))
 
 not-before-requires : tie.Need-not-before-requires
 not-before-requires c κs = search needs
@@ -48,10 +49,10 @@ returns-2 : tie.Need-returns-2
 returns-2 c =
     let at-order = c .before .before in
     let at-month = at-order .before in
-    let a = at-month .before .before .before .args in
-    let standing = order-is (a .book .has) (a .book .curves) (a .n .month) in
+    let a = at-month .before .before .before .before .args in
+    let standing = order-is (a .book .standing .has) (a .book .standing .curves) (a .n .month) in
     let order = sym standing ∙ sym (at-order .not-before .ensures) ∙ not-so (at-order .not-before .result) (c .before .if2 .taken) in
-    down (c .turned-down2 .ensures) refl (before-standing (asBook (a .book)) (asNumbers (a .n)) (at-month .if1 .left) order)
+    down (c .turned-down2 .ensures) refl (before-standing (asBook (a .book)) (now (a .sheet)) (asNumbers (a .n)) (at-month .if1 .left) order)
 
 from-numbers-requires : tie.Need-from-numbers-requires
 from-numbers-requires c κs = search needs
@@ -72,7 +73,7 @@ returns-3 c =
     let a = start m .args in
     let told = c .before .enum-told2 .given .1 in
     let refusal = at-verdict _ told (at-worked .from-numbers .ensures .0) in
-    down (c .turned-down3 .ensures) told (curve-refused (asBook (a .book)) (asNumbers (a .n)) (reached m) (in-order m) refusal)
+    down (c .turned-down3 .ensures) told (curve-refused (asBook (a .book)) (now (a .sheet)) (asNumbers (a .n)) (reached m) (in-order m) refusal)
 
 accepted-requires : tie.Need-accepted-requires
 accepted-requires c κs = search needs
@@ -84,8 +85,8 @@ returns-4 c =
     let m = at-worked .before in
     let a = start m .args in
     let curve = at-verdict _ (at-told .enum-told .given .1) (at-worked .from-numbers .ensures .0) in
-    let worked = curve-worked (asBook (a .book)) (asNumbers (a .n)) (reached m) (in-order m) curve in
-    (c .accepted .ensures .0 ∙ sym worked, c .accepted .ensures .1 ∙ ap (λ (r : Booked). resultOr 0 (r .answer)) (sym worked))
+    let worked = curve-worked (asBook (a .book)) (now (a .sheet)) (asNumbers (a .n)) (reached m) (in-order m) curve in
+    (c .accepted .ensures .0 ∙ sym worked, c .accepted .ensures .1 ∙ ap (λ (r : Booked ℕ). resultOr 0 (r .answer)) (sym worked))
 
 pub post-numbers-spec : {M : Type 1} → statement M
 post-numbers-spec =

@@ -1,5 +1,6 @@
 -- 11, 12, and else the told month is set.
 use mathlib.Core.Path.{refl, sym, ap, _∙_}
+use Prim.Native.Nat.{ℕ}
 use Rattle.ledger.specs.Book.{Book, Booked}
 use Rattle.grounds.specs.Verdicts.{resultOr}
 use Rattle.book.specs.Views.{asBook}
@@ -33,7 +34,7 @@ returns-3 c =
     let at-limit = c .before .before .before in
     let a = at-limit .before .args in
     let to = turn-to (asBook (a .book)) (a .month) (at-limit .if1 .left) (c .before .if2 .left) in
-    (ap (λ (b : Book). saying b (a .month)) (c .with-told .ensures) ∙ sym to, ap (λ (r : Booked). resultOr 0 (r .answer)) (sym to))
+    (ap (λ (b : Book). saying b (a .month)) (c .with-told .ensures) ∙ sym to, ap (λ (r : Booked ℕ). resultOr 0 (r .answer)) (sym to))
 
 pub turn-spec : {M : Type 1} → statement M
 turn-spec =
