@@ -7,7 +7,7 @@ use native.Mathlib.Omega.{arith}
 use lib.Dec.{eqb}
 use lib.ListN.{length, drop, length-append, length-drop}
 use borrow.Author.Tests.{eqb-true, eqb-false}
-use Rattle.journal.specs.Journal.{Front, cut, front}
+use Rattle.journal.specs.Journal.{Front, cut, deskFront}
 use Rattle.desk_core.specs.Lines.{brokenLine}
 use Rattle.desk_core.specs.Desk.{printedAt, printed, Serving, lineRoom}
 use Rattle.desk_core.specs.Desk.{Desk, opened, pass, passed, withBlock, reading, afterPass, printedIn, joined, HoweverCut}
@@ -26,14 +26,14 @@ ahead d blocks = rest (d .book) (d .offset) (d .held ++ joined blocks)
 module _ (r : Serving) (next : Desk → List (List ℕ) → List ℕ) (passes : ℕ)
     (again : (e : Desk) (bs : List (List ℕ)) → left e bs < passes → next e bs ≡ ahead e bs) (d : Desk) where
   -- the pass took nothing, as no whole record is held
-  reads-on : front (d .held) ≡ cut → (blocks : List (List ℕ)) → left d blocks ≤ passes → reading next d blocks ≡ ahead d blocks
+  reads-on : deskFront (d .held) ≡ cut → (blocks : List (List ℕ)) → left d blocks ≤ passes → reading next d blocks ≡ ahead d blocks
   reads-on e [] h =
       sym (rw append-nil (rest-at (d .book) (d .offset) (d .held) ∙ ap (λ (f : Front). printedAt f (d .book) (d .offset) (d .held) rest) e))
   reads-on e (block ∷ blocks) h =
       again (withBlock d block) blocks (omega (arith, length-append (d .held) block, length-append block (joined blocks)))
       ∙ ap (rest (d .book) (d .offset)) (append-assoc (d .held) block (joined blocks))
 
-  goes-on : (r .taken ≡ 0 → r .unknown ≡ false → front (d .held) ≡ cut) → (blocks : List (List ℕ)) → r .taken + left d blocks ≤ passes →
+  goes-on : (r .taken ≡ 0 → r .unknown ≡ false → deskFront (d .held) ≡ cut) → (blocks : List (List ℕ)) → r .taken + left d blocks ≤ passes →
       afterPass r next d blocks ≡ cond (r .unknown) (brokenLine (d .offset)) (ahead d blocks)
   goes-on nothing-whole blocks h = go (r .unknown) refl (eqb (r .taken) 0) refl
     where
@@ -51,7 +51,7 @@ module _ (room : ℕ) (roomy : lineRoom ≤ room) where
       let r = pass room d in
       ap (λ (l : List ℕ). r .text ++ l)
       (goes-on r (printedIn room passes) passes (λ e bs. passes-print passes e bs) (passed d r)
-      (λ z x. ap (λ (n : ℕ). front (drop n (d .held))) z ∙ takes-nothing room (d .book) (d .held) roomy z x)
+      (λ z x. ap (λ (n : ℕ). deskFront (drop n (d .held))) z ∙ takes-nothing room (d .book) (d .held) roomy z x)
       blocks (omega (arith, length-drop (r .taken) (d .held), served-within room (d .book) (d .held))))
       ∙ sym (served-splits (joined blocks) room (d .book) (d .held) (d .offset))
 

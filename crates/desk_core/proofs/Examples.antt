@@ -7,13 +7,13 @@ use Rattle.figures.specs.Figures.{sheetOf, rateRecords, volumeRecords, zeroShee
 use Rattle.method.proofs.Computes.{computes}
 use Rattle.zero_rates.proofs.Computes.{rates-compute}
 use Rattle.ledger.specs.Book.{post, postOutcome, turn, turnOutcome, lookIn}
-use Rattle.journal.specs.Journal.{front}
+use Rattle.journal.specs.Journal.{deskFront}
 use Rattle.desk_core.specs.Lines.{digitsTo}
 use Rattle.desk_core.specs.Desk.{printedFrom, printed}
 
 -- opens what the examples compute with
 opens : ℕ
-unfolding computes rates-compute rateRecords volumeRecords post postOutcome turn turnOutcome lookIn front digitsTo printedFrom printed
+unfolding computes rates-compute rateRecords volumeRecords post postOutcome turn turnOutcome lookIn deskFront digitsTo printedFrom printed
 opens = 0
 
 -- ---- the specification's

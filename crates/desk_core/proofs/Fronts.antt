@@ -9,16 +9,17 @@ use lib.ListN.{length, getD, drop, length-append, length-drop, List·getD-append
 use lib.Seq.{take-append-le, drop-append-le}
 use borrow.Author.Tests.{leb-true, leb-false, le-leb, ne-eqb}
 use Rattle.method.specs.Units.{plain}
-use Rattle.ledger.specs.Calls.{lookAt, pageInto, Call, postOf, turnTo, asks}
+use Rattle.ledger.specs.Calls.{lookAt, pageInto, Call, postOf, turnTo, withdrawal, asks}
 use Rattle.ledger.specs.Tells.{read2}
 use Rattle.journal.specs.Replies.{taken}
-use Rattle.journal.specs.Journal.{Front, whole, cut, unknown, sheetAt, sheetLength, sheetIn, recordOf, front}
+use Rattle.journal.specs.Journal.{Front, whole, cut, unknown, sheetAt, sheetLength, sheetIn, recordOf, deskFront}
 use Rattle.desk_core.specs.Desk.{longestRecord}
 
 -- no record is a page
 abbrev pub HasRecord : Call → Type 0
 HasRecord (postOf s) = Unit {0}
 HasRecord (turnTo m) = Unit {0}
+HasRecord withdrawal = ⊥
 HasRecord (asks (lookAt w y)) = Unit {0}
 HasRecord (asks (pageInto w l)) = ⊥
 
@@ -94,8 +95,8 @@ module _ (s t : List ℕ) where
 some-byte : (k : ℕ) (s : List ℕ) → eqb (length (k ∷ s)) 0 ≡ false
 some-byte k s = ne-eqb (length (k ∷ s)) 0 (λ e. omega arith)
 
-pub front-stands : (s t : List ℕ) → Stands s (front s) (front (s ++ t))
-unfolding front
+pub front-stands : (s t : List ℕ) → Stands s (deskFront s) (deskFront (s ++ t))
+unfolding deskFront
 front-stands [] t = cut-stands [] _ (omega arith)
 front-stands (kind ∷ s) t =
     let same = same-number (kind ∷ s) t in
@@ -111,13 +112,13 @@ front-stands (kind ∷ s) t =
     (unknown-stands (kind ∷ s)))))
 
 -- what is cut is shorter than the longest record, as its bytes are bytes
-pub cut-short : (s : List ℕ) → getD s 1 0 < 256 → getD s 2 0 < 256 → front s ≡ cut → length s < longestRecord
+pub cut-short : (s : List ℕ) → getD s 1 0 < 256 → getD s 2 0 < 256 → deskFront s ≡ cut → length s < longestRecord
 cut-short s h k e = omega (arith, front-stands s [] .cut-short e)
 
-pub taken-within : (s : List ℕ) → taken (front s) ≤ length s
-taken-within s = go (front s) refl
+pub taken-within : (s : List ℕ) → taken (deskFront s) ≤ length s
+taken-within s = go (deskFront s) refl
   where
-    go : (x : Front) → front s ≡ x → taken x ≤ length s
+    go : (x : Front) → deskFront s ≡ x → taken x ≤ length s
     go (whole c n) e = front-stands s [] .within e .1
     go cut e = omega arith
     go unknown e = omega arith

@@ -11,7 +11,7 @@ use lib.Seq.{drop-append-le, drop-drop}
 use borrow.Author.Tests.{leb-true, le-leb, lt-leb}
 use Rattle.ledger.specs.Book.{Book}
 use Rattle.ledger.specs.Calls.{Call, after}
-use Rattle.journal.specs.Journal.{Front, whole, cut, unknown, front}
+use Rattle.journal.specs.Journal.{Front, whole, cut, unknown, deskFront}
 use Rattle.journal.specs.Replies.{replyTo}
 use Rattle.desk_core.specs.Lines.{lineOf, brokenLine}
 use Rattle.desk_core.specs.Desk.{printedAt, Serving, stopping, behind, lineRoom, servedAt, servedFrom, served}
@@ -22,8 +22,8 @@ use Rattle.desk_core.proofs.Printing.{rest, rest-at}
 -- ---- one step
 
 pub roomy : (most room : ℕ) (b : Book) (s : List ℕ) → length s ≤ most → lineRoom ≤ room →
-    servedFrom most room b s ≡ servedAt (front s) room b s (servedFrom (most - 1))
-unfolding servedFrom front
+    servedFrom most room b s ≡ servedAt (deskFront s) room b s (servedFrom (most - 1))
+unfolding servedFrom deskFront
 roomy zero room b [] h k = refl
 roomy zero room b (kind ∷ s) h k = absurd (omega arith)
 roomy (suc most) room b s h k = let m : suc most - 1 ≡ most = omega arith in rw (le-leb lineRoom room k, m)
@@ -38,12 +38,12 @@ full (suc most) room b s h = rw (lt-leb lineRoom room h)
 -- P says something of a pass that has so much room, from a book, over bytes
 pub record Holds (P : ℕ → Book → List ℕ → Serving → Type 0) : Type 0 where
   pub stops : (room : ℕ) (b : Book) (s : List ℕ) → P room b s (stopping b false)
-  pub breaks : (room : ℕ) (b : Book) (s : List ℕ) → front s ≡ unknown → P room b s (stopping b true)
-  pub goes-on : (room : ℕ) (b : Book) (s : List ℕ) (c : Call) (n : ℕ) (r : Serving) → lineRoom ≤ room → front s ≡ whole c n →
+  pub breaks : (room : ℕ) (b : Book) (s : List ℕ) → deskFront s ≡ unknown → P room b s (stopping b true)
+  pub goes-on : (room : ℕ) (b : Book) (s : List ℕ) (c : Call) (n : ℕ) (r : Serving) → lineRoom ≤ room → deskFront s ≡ whole c n →
       P (room - length (lineOf (replyTo b (whole c n)))) (after b c) (drop n s) r → P room b s (behind n (lineOf (replyTo b (whole c n))) r)
 
 module _ (P : ℕ → Book → List ℕ → Serving → Type 0) (h : Holds P) where
-  at-front : (room : ℕ) (b : Book) (s : List ℕ) (next : ℕ → Book → List ℕ → Serving) (f : Front) → lineRoom ≤ room → front s ≡ f →
+  at-front : (room : ℕ) (b : Book) (s : List ℕ) (next : ℕ → Book → List ℕ → Serving) (f : Front) → lineRoom ≤ room → deskFront s ≡ f →
       ((left : ℕ) (a : Book) (l : List ℕ) → P left a l (next left a l)) → P room b s (servedAt f room b s next)
   at-front room b s next (whole c n) k e p = h .goes-on room b s c n _ k e (p _ (after b c) (drop n s))
   at-front room b s next cut k e p = h .stops room b s
@@ -55,8 +55,8 @@ module _ (P : ℕ → Book → List ℕ → Serving → Type 0) (h : Holds P) wh
   every-pass (suc most) room b s = go (leb lineRoom room) refl (λ left a l. every-pass most left a l)
     where
       go : (roomy : Bool) → leb lineRoom room ≡ roomy → ((left : ℕ) (a : Book) (l : List ℕ) → P left a l (servedFrom most left a l)) →
-          P room b s (cond roomy (servedAt (front s) room b s (servedFrom most)) (stopping b false))
-      go true e p = at-front room b s (servedFrom most) (front s) (leb-true lineRoom room e) refl p
+          P room b s (cond roomy (servedAt (deskFront s) room b s (servedFrom most)) (stopping b false))
+      go true e p = at-front room b s (servedFrom most) (deskFront s) (leb-true lineRoom room e) refl p
       go false e p = h .stops room b s
 
 -- ---- what is printed
@@ -86,7 +86,7 @@ pass-splits t =
           ∙ ap (λ (l : List ℕ). (line ++ r .text) ++ l) (onward-behind n line r offset s t);
     }
   where
-    now-at : (b : Book) (s : List ℕ) (offset : ℕ) (f : Front) → front (s ++ t) ≡ f → rest b offset (s ++ t) ≡ printedAt f b offset (s ++ t) rest
+    now-at : (b : Book) (s : List ℕ) (offset : ℕ) (f : Front) → deskFront (s ++ t) ≡ f → rest b offset (s ++ t) ≡ printedAt f b offset (s ++ t) rest
     now-at b s offset f e = rest-at b offset (s ++ t) ∙ ap (λ (f : Front). printedAt f b offset (s ++ t) rest) e
 
 pub served-splits : (t : List ℕ) (room : ℕ) (b : Book) (s : List ℕ) → Splits t room b s (served room b s)
@@ -125,16 +125,16 @@ served-fits room b s = every-pass _ text-fits (length s) room b s
 
 -- nothing, with no unknown kind next, only where no whole record is held
 pub takes-nothing : (room : ℕ) (b : Book) (s : List ℕ) → lineRoom ≤ room → served room b s .taken ≡ 0 → served room b s .unknown ≡ false →
-    front s ≡ cut
+    deskFront s ≡ cut
 unfolding served
 takes-nothing room b s k z x =
     let step = roomy (length s) room b s (omega arith) k in
-    go (front s) refl (sym (ap (λ (r : Serving). r .taken) step) ∙ z) (sym (ap (λ (r : Serving). r .unknown) step) ∙ x)
+    go (deskFront s) refl (sym (ap (λ (r : Serving). r .taken) step) ∙ z) (sym (ap (λ (r : Serving). r .unknown) step) ∙ x)
   where
     next : ℕ → Book → List ℕ → Serving
     next = servedFrom (length s - 1)
 
-    go : (f : Front) → front s ≡ f → servedAt f room b s next .taken ≡ 0 → servedAt f room b s next .unknown ≡ false → front s ≡ cut
+    go : (f : Front) → deskFront s ≡ f → servedAt f room b s next .taken ≡ 0 → servedAt f room b s next .unknown ≡ false → deskFront s ≡ cut
     go (whole c n) e z x = absurd (omega (arith, front-stands s [] .within e .0))
     go cut e z x = e
     go unknown e z x = let o : _≡_ {A = ℕ} 0 1 = cc in absurd (omega arith)

@@ -4,7 +4,7 @@ use mathlib.Core.List.{List, [], _∷_}
 use mathlib.Core.Path.{_≡_, refl, ap, sym, _∙_}
 use Prim.Native.Nat.{ℕ}
 use Rattle.ledger.specs.Book.{Book}
-use Rattle.ledger.specs.Calls.{lookAt, pageInto, Call, postOf, turnTo, asks}
+use Rattle.ledger.specs.Calls.{lookAt, pageInto, Call, postOf, turnTo, withdrawal, asks}
 use Rattle.grounds.specs.declared.Ground.{Ground}
 use Rattle.grounds.specs.declared.Verdict.{Verdict}
 use Rattle.grounds.specs.declared.Verdict.the-variants.{Passed, Refused}
@@ -14,11 +14,11 @@ use Rattle.book.specs.declared.Finding.{Finding}
 use Rattle.book.specs.Views.{asFinding}
 use Rattle.journal.specs.declared.Reply.{Reply}
 use Rattle.journal.specs.declared.Reply.the-variants as code
-use Rattle.journal.specs.Journal.{Front, whole, cut, unknown, front}
+use Rattle.journal.specs.Journal.{Front, whole, cut, unknown, deskFront}
 use Rattle.journal.specs.Replies as replies
-use Rattle.journal.specs.Replies.{posted, turned, looked, cutShort, notKnown, replyTo}
+use Rattle.journal.specs.Replies.{posted, turned, withdrawn, looked, cutShort, notKnown, replyTo}
 use Rattle.journal.specs.declared.Made.{Made}
-use Rattle.journal.specs.Made.{asReply, Makes}
+use Rattle.journal.specs.Made.{asReply, MakesAtDesk}
 use Rattle.desk_core.specs.Lines.{line, answerLine, lineOf}
 use Rattle.desk_core.specs.Handed.{isNotKnown, isUnknown}
 use Rattle.desk_core.proofs.Fronts.{HasRecord, front-stands}
@@ -51,6 +51,7 @@ module _ (v : Verdict) (m : ℕ) (f : Finding) {r : Reply} where
 abbrev strange : replies.Reply → Bool
 strange (posted o) = false
 strange (turned o) = false
+strange (withdrawn o) = false
 strange (looked y o) = false
 strange cutShort = false
 strange notKnown = true
@@ -58,6 +59,7 @@ strange notKnown = true
 strange-code : (r : Reply) (v : Verdict) (m : ℕ) (f : Finding) → isNotKnown r ≡ strange (asReply r v m f)
 strange-code code.Posted v m f = refl
 strange-code code.Turned v m f = refl
+strange-code code.Withdrawn v m f = refl
 strange-code (code.Looked y) v m f = refl
 strange-code code.CutShort v m f = refl
 strange-code code.NotKnown v m f = refl
@@ -65,13 +67,14 @@ strange-code code.NotKnown v m f = refl
 strange-front : (b : Book) (x : Front) → ((c : Call) (n : ℕ) → x ≡ whole c n → HasRecord c) → strange (replyTo b x) ≡ isUnknown x
 strange-front b (whole (postOf s) n) h = refl
 strange-front b (whole (turnTo m) n) h = refl
+strange-front b (whole withdrawal n) h = absurd (h withdrawal n refl)
 strange-front b (whole (asks (lookAt w y)) n) h = refl
 strange-front b (whole (asks (pageInto w l)) n) h = absurd (h (asks (pageInto w l)) n refl)
 strange-front b cut h = refl
 strange-front b unknown h = refl
 
-pub unknown-by : {b : Book} {s : List ℕ} {r : Made} → Makes b s r → isNotKnown (r .reply) ≡ isUnknown (front s)
+pub unknown-by : {b : Book} {s : List ℕ} {r : Made} → MakesAtDesk b s r → isNotKnown (r .reply) ≡ isUnknown (deskFront s)
 unknown-by {b} {s} {r} h =
     strange-code (r .reply) (r .verdict) (r .month) (r .finding)
     ∙ ap strange (h .reply)
-    ∙ strange-front b (front s) (λ c n w. front-stands s [] .recorded w)
+    ∙ strange-front b (deskFront s) (λ c n w. front-stands s [] .recorded w)

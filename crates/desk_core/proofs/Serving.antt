@@ -10,7 +10,7 @@ use lib.Seq.{length-take-le, drop-drop}
 use Rattle.ledger.specs.Book.{Book}
 use Rattle.book.specs.declared.Book.{Book as DeclaredBook}
 use Rattle.book.specs.Views.{asBook}
-use Rattle.journal.specs.Journal.{Front, whole, cut, unknown, front}
+use Rattle.journal.specs.Journal.{Front, whole, cut, unknown, deskFront}
 use Rattle.journal.specs.Replies as journal
 use Rattle.journal.specs.Replies.{replyTo, bookAfter}
 use Rattle.desk_core.specs.declared.Desk.{Desk as DeclaredDesk}
@@ -27,7 +27,7 @@ use Rattle.desk_core.proofs.Passes.{roomy, full, takes-nothing}
 -- ---- by what stands at the front
 
 -- no whole record: nothing is served, and nothing was put
-stops-at : (x : Front) (room : ℕ) (b : Book) (s : List ℕ) (next : ℕ → Book → List ℕ → Serving) → front s ≡ x → journal.taken x ≡ 0 →
+stops-at : (x : Front) (room : ℕ) (b : Book) (s : List ℕ) (next : ℕ → Book → List ℕ → Serving) → deskFront s ≡ x → journal.taken x ≡ 0 →
     (servedAt x room b s next ≡ stopping b (isUnknown x)) × (lineOf (replyTo b x) ≡ [])
 stops-at (whole c n) room b s next e z = absurd (omega (arith, front-stands s [] .within e .0))
 stops-at cut room b s next e z = (refl, refl)
@@ -92,7 +92,7 @@ module _ {room : ℕ} {b : Book} {held : List ℕ} {a : Book} {taken : ℕ} {tex
 
   module _ {exit : List ℕ} {r : Answered} (q : Answers a (drop taken held) text written exit r) (k : lineRoom ≤ room - written) where
     abbrev next : Front
-    next = front (drop taken held)
+    next = deskFront (drop taken held)
 
     step : servedFrom (p .most) (room - written) a (drop taken held) ≡ servedAt next (room - written) a (drop taken held) (servedFrom (p .most - 1))
     step = roomy (p .most) (room - written) a (drop taken held) (omega (arith, p .enough, length-drop taken held)) k

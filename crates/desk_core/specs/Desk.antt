@@ -7,7 +7,7 @@ use lib.Dec.{leb, eqb}
 use lib.ListN.{length, drop}
 use Rattle.ledger.specs.Book.{Book, largestAgeLimit, fresh}
 use Rattle.ledger.specs.Calls.{after}
-use Rattle.journal.specs.Journal.{Front, whole, cut, unknown, front}
+use Rattle.journal.specs.Journal.{Front, whole, cut, unknown, deskFront}
 use Rattle.journal.specs.Replies.{replyTo}
 use Rattle.desk_core.specs.Lines.{lineOf, brokenLine}
 
@@ -30,7 +30,7 @@ printedAt unknown b offset s next = brokenLine offset
 -- for the bytes from `offset` on, at most so many lines
 unfoldable pub printedFrom : ℕ → Book → ℕ → List ℕ → List ℕ
 printedFrom zero b offset s = []
-printedFrom (suc most) b offset s = printedAt (front s) b offset s (printedFrom most)
+printedFrom (suc most) b offset s = printedAt (deskFront s) b offset s (printedFrom most)
 
 -- a fresh book with the largest age limit
 abbrev pub deskBook : Book
@@ -69,7 +69,7 @@ servedAt unknown room b s next = stopping b true
 -- at most so many records
 unfoldable pub servedFrom : ℕ → ℕ → Book → List ℕ → Serving
 servedFrom zero room b s = stopping b false
-servedFrom (suc most) room b s = cond (leb lineRoom room) (servedAt (front s) room b s (servedFrom most)) (stopping b false)
+servedFrom (suc most) room b s = cond (leb lineRoom room) (servedAt (deskFront s) room b s (servedFrom most)) (stopping b false)
 
 unfoldable pub served : ℕ → Book → List ℕ → Serving
 served room b held = servedFrom (length held) room b held

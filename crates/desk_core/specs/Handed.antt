@@ -8,7 +8,7 @@ use Rattle.ledger.specs.Book.{Book}
 use Rattle.book.specs.Views.{asBook}
 use Rattle.journal.specs.declared.Reply.{Reply}
 use Rattle.journal.specs.declared.Reply.the-variants as reply
-use Rattle.journal.specs.Journal.{Front, whole, cut, unknown, front}
+use Rattle.journal.specs.Journal.{Front, whole, cut, unknown, deskFront}
 use Rattle.journal.specs.Replies as journal
 use Rattle.journal.specs.Replies.{replyTo, bookAfter}
 use Rattle.desk_core.specs.Lines.{lineOf}
@@ -28,6 +28,7 @@ pub record Puts (bytes entry : List ℕ) (at : ℕ) (exit : List ℕ) (end : ℕ
 abbrev pub isNotKnown : Reply → Bool
 isNotKnown reply.Posted = false
 isNotKnown reply.Turned = false
+isNotKnown reply.Withdrawn = false
 isNotKnown (reply.Looked year) = false
 isNotKnown reply.CutShort = false
 isNotKnown reply.NotKnown = true
@@ -39,10 +40,10 @@ isUnknown unknown = true
 
 -- the call at the front of the bytes s made on a book, its line put
 pub record Answers (b : Book) (s entry : List ℕ) (at : ℕ) (exit : List ℕ) (r : Answered) : Type 0 where
-  pub book : asBook (r .book) ≡ bookAfter b (front s)
-  pub taken : r .taken ≡ journal.taken (front s)
-  pub line : Puts (lineOf (replyTo b (front s))) entry at exit (r .end)
-  pub unknown : r .unknown ≡ isUnknown (front s)
+  pub book : asBook (r .book) ≡ bookAfter b (deskFront s)
+  pub taken : r .taken ≡ journal.taken (deskFront s)
+  pub line : Puts (lineOf (replyTo b (deskFront s))) entry at exit (r .end)
+  pub unknown : r .unknown ≡ isUnknown (deskFront s)
 
 -- ---- a pass made, with its lines at the front of a text
 

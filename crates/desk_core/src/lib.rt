@@ -58,6 +58,7 @@ fn not_known(reply: Reply) -> bool
     match reply {
         Reply::Posted => false,
         Reply::Turned => false,
+        Reply::Withdrawn => false,
         Reply::Looked(_) => false,
         Reply::CutShort => false,
         Reply::NotKnown => true,
@@ -69,7 +70,7 @@ fn answer(book: Book, rest: &[u8], text: &mut [u8], at: usize) -> Answered
     requires { ⌜ at + lineRoom ≤ length (now text) ⌝ }
     ensures { λ r. ⌜ Answers (asBook book) (now (rest .entry)) (now (text .entry)) at (now (text .exit)) r ⌝ }
 {
-    let made = journal::make(book, rest);
+    let made = journal::make_at_desk(book, rest);
     let reply = made.reply;
     let verdict = made.verdict;
     let found = made.finding;

@@ -86,6 +86,7 @@ pub(crate) fn put_reply(
             text,
             at,
         ),
+        Reply::Withdrawn => at,
         Reply::CutShort => at,
         Reply::NotKnown => at,
     }

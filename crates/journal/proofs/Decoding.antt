@@ -1,19 +1,18 @@
 -- A journal, record by record: the calls that are left lead from the book in hand to the book of all calls.
 use mathlib.Core.Path.{_≡_, refl, ap, sym, _∙_}
 use mathlib.Core.Bool.{Bool, true, false, cond}
-use mathlib.Core.List.{List, []}
+use mathlib.Core.List.{List, [], _∷_}
 use Prim.Native.Nat.{ℕ, zero, suc, _+_, _-_, _≤_, _<_}
 use native.Mathlib.Omega.{arith}
 use lib.Dec.{leb, eqb}
 use lib.ListN.{length, getD, take, drop, length-drop}
 use lib.Seq.{take-all, drop-drop}
-use borrow.Author.Tests.{eq-eqb}
 use Rattle.method.specs.Units.{plain}
 use Rattle.ledger.specs.Book.{Book, fresh}
-use Rattle.ledger.specs.Calls.{Call, postOf, turnTo, lookAt, asks, run, runFrom}
+use Rattle.ledger.specs.Calls.{Call, postOf, turnTo, withdrawal, lookAt, asks, run, runFrom}
 use Rattle.ledger.specs.Tells.{read2}
 use Rattle.book.specs.Views.{asBook}
-use Rattle.journal.specs.Journal.{Front, whole, cut, unknown, sheetAt, sheetLength, sheetIn, recordOf, postFront, turnFront, lookFront, front}
+use Rattle.journal.specs.Journal.{Front, whole, cut, unknown, sheetAt, sheetLength, sheetIn, recordOf, postFront, turnFront, lookFront, deskFront, front}
 use Rattle.journal.specs.Journal.{andThen, decodeFrom, decode}
 use Rattle.journal.specs.Replies.{bookAfter, taken}
 use Rattle.journal.specs.Made.{Makes}
@@ -33,9 +32,9 @@ either a b false h k = k
 record-some : (s : List ℕ) (n : ℕ) (c : Call) → 0 < n → Some (recordOf s n c)
 record-some s n c h = either (whole c n) cut (leb n (length s)) h tt
 
-pub front-some : (s : List ℕ) → Some (front s)
-unfolding front
-front-some s =
+desk-front-some : (s : List ℕ) → Some (deskFront s)
+unfolding deskFront
+desk-front-some s =
     let post = record-some s (sheetAt + sheetLength s) (postOf (sheetIn s)) (omega arith) in
     let turn = record-some s 3 (turnTo (read2 s 1)) (omega arith) in
     let look = record-some s 2 (asks (lookAt plain (getD s 1 0))) (omega arith) in
@@ -44,11 +43,16 @@ front-some s =
     let post? = either (postFront s) _ (eqb (getD s 0 0) 0x50) post turn? in
     either cut _ (eqb (length s) 0) tt post?
 
+pub front-some : (s : List ℕ) → Some (front s)
+unfolding front
+front-some s = either (recordOf s 1 withdrawal) (deskFront s) (eqb (getD s 0 0) 0x57) (record-some s 1 withdrawal (omega arith)) (desk-front-some s)
+
 -- ---- the calls that are left
 
 pub front-end : (s : List ℕ) → length s ≤ 0 → front s ≡ cut
-unfolding front
-front-end s h = rw (eq-eqb (length s) 0 (omega arith))
+unfolding front deskFront
+front-end [] h = refl
+front-end (b ∷ s) h = absurd (omega (arith, h))
 
 -- nothing is taken where there is no whole record
 stopped : (b : Book) (f : Front) (calls : List ℕ → List Call) (s : List ℕ) → Some f → taken f ≡ 0 → (andThen f calls s ≡ []) × (bookAfter b f ≡ b)

@@ -1,4 +1,4 @@
--- Every list of posts, turns and look-ups that records have room for is the meaning of some bytes.
+-- Every list of posts, turns, withdrawals and look-ups that records have room for is the meaning of some bytes.
 use mathlib.Core.Path.{_≡_, refl, ap, _∙_}
 use mathlib.Core.List.{List, [], _∷_, _++_}
 use Prim.Native.Nat.{ℕ, zero, suc, _+_, _*_, _/_, _%_, _≤_, _<_}
@@ -8,8 +8,8 @@ use lib.ListN.{length, length-append}
 use lib.Seq.{take-at, drop-append-seam}
 use borrow.Author.Tests.{le-leb}
 use Rattle.method.specs.Units.{plain, adjusted}
-use Rattle.ledger.specs.Calls.{Call, postOf, turnTo, lookAt, pageInto, asks}
-use Rattle.journal.specs.Journal.{whole, recordOf, front, decodeFrom, decode, encoded, encode, AreBytes, Fits, AllFit}
+use Rattle.ledger.specs.Calls.{Call, postOf, turnTo, withdrawal, lookAt, pageInto, asks}
+use Rattle.journal.specs.Journal.{whole, recordOf, deskFront, front, decodeFrom, decode, encoded, encode, AreBytes, Fits, AllFit}
 use Rattle.journal.proofs.Decoding.{front-end}
 
 two-bytes : (n : ℕ) → n < 65_536 → n / 256 % 256 * 256 + n % 256 ≡ n
@@ -23,18 +23,20 @@ some-bytes : (c : Call) → Fits c → 0 < length (encoded c)
 unfolding encoded
 some-bytes (postOf s) h = omega arith
 some-bytes (turnTo m) h = omega arith
+some-bytes withdrawal h = omega arith
 some-bytes (asks (lookAt plain y)) h = omega arith
 some-bytes (asks (lookAt adjusted y)) h = absurd h
 some-bytes (asks (pageInto w l)) h = absurd h
 
 reads-back : (c : Call) (rest : List ℕ) → Fits c → front (encoded c ++ rest) ≡ whole c (length (encoded c))
-unfolding encoded front
+unfolding encoded front deskFront
 reads-back (postOf s) rest h =
     let three : 3 + length s ≡ suc (suc (suc (length s))) = omega arith in
     rw (eqb·suc-zero (suc (suc (length (s ++ rest)))), two-bytes (length s) (h .0), take-at s rest (length s) refl)
     (record-read (encoded (postOf s) ++ rest) (3 + length s) (postOf s) (omega (arith, length-append s rest)) ∙ ap (whole (postOf s)) three)
 reads-back (turnTo m) rest h =
     rw (eqb·suc-zero (suc (suc (length rest))), two-bytes m h) (record-read (encoded (turnTo m) ++ rest) 3 (turnTo m) (omega arith))
+reads-back withdrawal rest h = record-read (encoded withdrawal ++ rest) 1 withdrawal (omega arith)
 reads-back (asks (lookAt plain y)) rest h =
     rw (eqb·suc-zero (suc (length rest))) (record-read (encoded (asks (lookAt plain y)) ++ rest) 2 (asks (lookAt plain y)) (omega arith))
 reads-back (asks (lookAt adjusted y)) rest h = absurd h
@@ -62,6 +64,7 @@ encoded-bytes : (c : Call) → Fits c → AreBytes (encoded c)
 unfolding encoded
 encoded-bytes (postOf s) h = (omega arith, (omega arith, (omega arith, h .1)))
 encoded-bytes (turnTo m) h = (omega arith, (omega arith, (omega arith, tt)))
+encoded-bytes withdrawal h = (omega arith, tt)
 encoded-bytes (asks (lookAt plain y)) h = (omega arith, (h, tt))
 encoded-bytes (asks (lookAt adjusted y)) h = absurd h
 encoded-bytes (asks (pageInto w l)) h = absurd h

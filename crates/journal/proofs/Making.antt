@@ -1,6 +1,6 @@
 -- What is handed back where a record is cut, where it is whole, and where its kind is not known.
 use mathlib.Core.Path.{_≡_, refl, ap, _∙_}
-use mathlib.Core.List.{List}
+use mathlib.Core.List.{List, [], _∷_}
 use Prim.Native.Nat.{ℕ, _≤_, _<_}
 use native.Mathlib.Omega.{arith}
 use lib.ListN.{length, getD}
@@ -8,20 +8,21 @@ use borrow.Author.Tests.{le-leb, lt-leb, eq-eqb, ne-eqb}
 use Rattle.method.specs.Units.{plain}
 use Rattle.ledger.specs.Answers as answer
 use Rattle.ledger.specs.Book as ledger
-use Rattle.ledger.specs.Book.{post, turn, lookUp}
-use Rattle.ledger.specs.Calls.{Call, postOf, turnTo, lookAt, asks}
+use Rattle.ledger.specs.Book.{post, turn, withdraw, lookUp}
+use Rattle.ledger.specs.Calls.{Call, postOf, turnTo, withdrawal, lookAt, asks}
 use Rattle.grounds.specs.declared.Verdict.{Verdict}
 use Rattle.grounds.specs.Verdicts.{asOutcome, resultOr}
 use Rattle.book.specs.declared.Book.{Book}
 use Rattle.book.specs.declared.Booked.{Booked}
+use Rattle.book.specs.declared.Withdrawn.{Withdrawn}
 use Rattle.book.specs.declared.Finding.{Finding}
 use Rattle.book.specs.declared.Looked.{Looked}
-use Rattle.book.specs.Views.{asBook, asBooked, asFinding, noFinding}
-use Rattle.journal.specs.Journal.{Front, cut, unknown, recordOf, postFront, turnFront, lookFront, front}
-use Rattle.journal.specs.Replies.{posted, turned, looked, replyTo, bookAfter, taken}
-use Rattle.journal.specs.Made.{asReply, monthBeside, findingBeside, NoCall, MakesFront}
+use Rattle.book.specs.Views.{asBook, asBooked, asWithdrawn, asFinding, noFinding}
+use Rattle.journal.specs.Journal.{Front, cut, unknown, recordOf, postFront, turnFront, lookFront, deskFront, front}
+use Rattle.journal.specs.Replies.{posted, turned, withdrawn, looked, replyTo, bookAfter, taken}
+use Rattle.journal.specs.Made.{asReply, monthBeside, findingBeside, NoCall, MakesFront, MakesAtDesk, Makes}
 use Rattle.journal.specs.declared.Reply.{Reply}
-use Rattle.journal.specs.declared.Reply.the-variants.{Posted, Turned, Looked as LookedAt, CutShort, NotKnown}
+use Rattle.journal.specs.declared.Reply.the-variants.{Posted, Turned, Withdrawn as TakenBack, Looked as LookedAt, CutShort, NotKnown}
 use Rattle.journal.specs.declared.Made.{Made}
 
 -- ---- no call
@@ -61,10 +62,10 @@ module _ (b : ledger.Book) (s : List ℕ) (n : ℕ) (room : n ≤ length s) (non
   post-made sheet e m =
       rw (le-leb n (length s) room)
       (record {
-        reply = ap (λ (p : ledger.Booked). posted (p .answer)) e;
+        reply = ap (λ (p : ledger.Booked ℕ). posted (p .answer)) e;
         month = m;
         finding = zeros;
-        book = ap (λ (p : ledger.Booked). p .book) e;
+        book = ap (λ (p : ledger.Booked ℕ). p .book) e;
         bytes = refl;
         within = room;
       })
@@ -74,13 +75,28 @@ module _ (b : ledger.Book) (s : List ℕ) (n : ℕ) (room : n ≤ length s) (non
   turn-made month e m =
       rw (le-leb n (length s) room)
       (record {
-        reply = ap (λ (p : ledger.Booked). turned (p .answer)) e;
+        reply = ap (λ (p : ledger.Booked ℕ). turned (p .answer)) e;
         month = m;
         finding = zeros;
-        book = ap (λ (p : ledger.Booked). p .book) e;
+        book = ap (λ (p : ledger.Booked ℕ). p .book) e;
         bytes = refl;
         within = room;
       })
+
+pub withdrawal-made :
+    (b : ledger.Book) (s : List ℕ) (n : ℕ) → n ≤ length s → (none : Finding) → asFinding none ≡ noFinding → (r : Withdrawn) → asWithdrawn r ≡ withdraw b →
+    MakesFront b s (recordOf s n withdrawal)
+    (record { reply = TakenBack; verdict = r .verdict; month = 0; finding = none; taken = n; book = r .book })
+withdrawal-made b s n room none zeros r e =
+    rw (le-leb n (length s) room)
+    (record {
+      reply = ap (λ (p : ledger.Booked (Unit {0})). withdrawn (p .answer)) e;
+      month = refl;
+      finding = zeros;
+      book = ap (λ (p : ledger.Booked (Unit {0})). p .book) e;
+      bytes = refl;
+      within = room;
+    })
 
 module _ (book : Book) (s : List ℕ) (n : ℕ) (room : n ≤ length s) (year : ℕ) (r : Looked) where
   pub look-made : asOutcome (r .verdict) (asFinding (r .finding)) ≡ lookUp (asBook book) plain year →
@@ -94,28 +110,41 @@ module _ (book : Book) (s : List ℕ) (n : ℕ) (room : n ≤ length s) (year : 
 -- ---- by the kind byte
 
 module _ (book : Book) (s : List ℕ) (r : Made) where
-  abbrev Made-front : Type 0
-  Made-front = MakesFront (asBook book) s (front s) r
+  abbrev Made-at-desk : Type 0
+  Made-at-desk = MakesAtDesk (asBook book) s r
 
-  pub at-end : length s ≡ 0 → NoCall book CutShort r → Made-front
-  unfolding front
+  pub at-end : length s ≡ 0 → NoCall book CutShort r → Made-at-desk
+  unfolding deskFront
   at-end e n = rw (eq-eqb (length s) 0 e) (cut-made s n)
 
   module _ (some : length s ≡ 0 → ⊥) where
-    pub at-post : getD s 0 0 ≡ 0x50 → MakesFront (asBook book) s (postFront s) r → Made-front
-    unfolding front
+    pub at-post : getD s 0 0 ≡ 0x50 → MakesFront (asBook book) s (postFront s) r → Made-at-desk
+    unfolding deskFront
     at-post e m = rw (ne-eqb (length s) 0 some, eq-eqb (getD s 0 0) 0x50 e) m
 
-    pub at-turn : (getD s 0 0 ≡ 0x50 → ⊥) → getD s 0 0 ≡ 0x4D → MakesFront (asBook book) s (turnFront s) r → Made-front
-    unfolding front
+    pub at-turn : (getD s 0 0 ≡ 0x50 → ⊥) → getD s 0 0 ≡ 0x4D → MakesFront (asBook book) s (turnFront s) r → Made-at-desk
+    unfolding deskFront
     at-turn p e m = rw (ne-eqb (length s) 0 some, ne-eqb (getD s 0 0) 0x50 p, eq-eqb (getD s 0 0) 0x4D e) m
 
-    pub at-look : (getD s 0 0 ≡ 0x50 → ⊥) → (getD s 0 0 ≡ 0x4D → ⊥) → getD s 0 0 ≡ 0x4C → MakesFront (asBook book) s (lookFront s) r → Made-front
-    unfolding front
+    pub at-look : (getD s 0 0 ≡ 0x50 → ⊥) → (getD s 0 0 ≡ 0x4D → ⊥) → getD s 0 0 ≡ 0x4C → MakesFront (asBook book) s (lookFront s) r → Made-at-desk
+    unfolding deskFront
     at-look p t e m =
         rw (ne-eqb (length s) 0 some, ne-eqb (getD s 0 0) 0x50 p, ne-eqb (getD s 0 0) 0x4D t, eq-eqb (getD s 0 0) 0x4C e) m
 
-    pub at-unknown : (getD s 0 0 ≡ 0x50 → ⊥) → (getD s 0 0 ≡ 0x4D → ⊥) → (getD s 0 0 ≡ 0x4C → ⊥) → NoCall book NotKnown r → Made-front
-    unfolding front
+    pub at-unknown : (getD s 0 0 ≡ 0x50 → ⊥) → (getD s 0 0 ≡ 0x4D → ⊥) → (getD s 0 0 ≡ 0x4C → ⊥) → NoCall book NotKnown r → Made-at-desk
+    unfolding deskFront
     at-unknown p t l n =
         rw (ne-eqb (length s) 0 some, ne-eqb (getD s 0 0) 0x50 p, ne-eqb (getD s 0 0) 0x4D t, ne-eqb (getD s 0 0) 0x4C l) (unknown-made s n)
+
+  -- a withdrawal, which the desk does not know
+  pub at-withdrawal : getD s 0 0 ≡ 0x57 → MakesFront (asBook book) s (recordOf s 1 withdrawal) r → Makes (asBook book) s r
+  unfolding front
+  at-withdrawal e m = rw (eq-eqb (getD s 0 0) 0x57 e) m
+
+  pub at-desk : (getD s 0 0 ≡ 0x57 → ⊥) → Made-at-desk → Makes (asBook book) s r
+  unfolding front
+  at-desk n m = rw (ne-eqb (getD s 0 0) 0x57 n) m
+
+pub no-kind : (s : List ℕ) → length s < 1 → getD s 0 0 ≡ 0x57 → ⊥
+no-kind [] h e = omega (arith, e)
+no-kind (b ∷ s) h e = omega (arith, h)

@@ -6,7 +6,7 @@ use lib.Dec.{leb, eqb}
 use lib.ListN.{length, getD, take, drop}
 use Rattle.method.specs.Units.{plain, adjusted}
 use Rattle.method.specs.Bytes.{bytes2}
-use Rattle.ledger.specs.Calls.{lookAt, pageInto, Call, postOf, turnTo, asks}
+use Rattle.ledger.specs.Calls.{lookAt, pageInto, Call, postOf, turnTo, withdrawal, asks}
 use Rattle.ledger.specs.Tells.{read2}
 
 -- what stands at the front of the bytes: the call of a whole record of so many bytes; a record that is cut, or no byte at all;
@@ -45,13 +45,18 @@ turnFront s = recordOf s 3 (turnTo (read2 s 1))
 abbrev pub lookFront : List ℕ → Front
 lookFront s = recordOf s 2 (asks (lookAt plain (getD s 1 0)))
 
-unfoldable pub front : List ℕ → Front
-front s =
+-- the three that the desk knows
+unfoldable pub deskFront : List ℕ → Front
+deskFront s =
     cond (eqb (length s) 0) cut
     (cond (eqb (getD s 0 0) 0x50) (postFront s)
     (cond (eqb (getD s 0 0) 0x4D) (turnFront s)
     (cond (eqb (getD s 0 0) 0x4C) (lookFront s)
     unknown)))
+
+-- and a withdrawal, which is its kind byte alone
+unfoldable pub front : List ℕ → Front
+front s = cond (eqb (getD s 0 0) 0x57) (recordOf s 1 withdrawal) (deskFront s)
 
 -- ---- a journal: its records one after the other, read until an unknown kind or a cut record
 
@@ -74,6 +79,7 @@ decode s = decodeFrom (length s) s
 unfoldable pub encoded : Call → List ℕ
 encoded (postOf s) = 0x50 ∷ bytes2 (length s) ++ s
 encoded (turnTo m) = 0x4D ∷ bytes2 m
+encoded withdrawal = 0x57 ∷ []
 encoded (asks (lookAt plain y)) = 0x4C ∷ y ∷ []
 encoded (asks (lookAt adjusted y)) = []
 encoded (asks (pageInto w l)) = []
@@ -91,6 +97,7 @@ AreBytes (b ∷ bs) = (b < 256) × AreBytes bs
 abbrev pub Fits : Call → Type 0
 Fits (postOf s) = (length s < 65_536) × AreBytes s
 Fits (turnTo m) = m < 65_536
+Fits withdrawal = Unit {0}
 Fits (asks (lookAt plain y)) = y < 256
 Fits (asks (lookAt adjusted y)) = ⊥
 Fits (asks (pageInto w l)) = ⊥

@@ -11,16 +11,17 @@ use Rattle.grounds.specs.Verdicts.{asOutcome, resultOr}
 use Rattle.book.specs.declared.Book as code
 use Rattle.book.specs.declared.Finding.{Finding}
 use Rattle.book.specs.Views.{asBook, asFinding, noFinding}
-use Rattle.journal.specs.Journal.{Front, front}
+use Rattle.journal.specs.Journal.{Front, deskFront, front}
 use Rattle.journal.specs.Replies as replies
-use Rattle.journal.specs.Replies.{posted, turned, looked, cutShort, notKnown, replyTo, bookAfter, taken}
+use Rattle.journal.specs.Replies.{posted, turned, withdrawn, looked, cutShort, notKnown, replyTo, bookAfter, taken}
 use Rattle.journal.specs.declared.Reply.{Reply}
-use Rattle.journal.specs.declared.Reply.the-variants.{Posted, Turned, Looked, CutShort, NotKnown}
+use Rattle.journal.specs.declared.Reply.the-variants.{Posted, Turned, Withdrawn, Looked, CutShort, NotKnown}
 use Rattle.journal.specs.declared.Made.{Made}
 
 abbrev pub asReply : Reply → Verdict → ℕ → Finding → replies.Reply
 asReply Posted v m f = posted (asOutcome v m)
 asReply Turned v m f = turned (asOutcome v m)
+asReply Withdrawn v m f = withdrawn (asOutcome v tt)
 asReply (Looked y) v m f = looked y (asOutcome v (asFinding f))
 asReply CutShort v m f = cutShort
 asReply NotKnown v m f = notKnown
@@ -29,6 +30,7 @@ asReply NotKnown v m f = notKnown
 abbrev pub monthBeside : replies.Reply → ℕ
 monthBeside (posted o) = resultOr 0 o
 monthBeside (turned o) = resultOr 0 o
+monthBeside (withdrawn o) = 0
 monthBeside (looked y o) = 0
 monthBeside cutShort = 0
 monthBeside notKnown = 0
@@ -37,6 +39,7 @@ monthBeside notKnown = 0
 abbrev pub findingBeside : replies.Reply → answer.Finding
 findingBeside (posted o) = noFinding
 findingBeside (turned o) = noFinding
+findingBeside (withdrawn o) = noFinding
 findingBeside (looked y o) = resultOr noFinding o
 findingBeside cutShort = noFinding
 findingBeside notKnown = noFinding
@@ -58,5 +61,10 @@ pub record MakesFront (b : Book) (s : List ℕ) (f : Front) (r : Made) : Type 0 
   pub bytes : r .taken ≡ taken f
   pub within : r .taken ≤ length s
 
+-- a record that the desk knows
+abbrev pub MakesAtDesk : Book → List ℕ → Made → Type 0
+MakesAtDesk b s r = MakesFront b s (deskFront s) r
+
+-- any record
 abbrev pub Makes : Book → List ℕ → Made → Type 0
 Makes b s r = MakesFront b s (front s) r

@@ -2,14 +2,15 @@
 use Prim.Native.Nat.{ℕ}
 use Rattle.method.specs.Grounds.{Outcome}
 use Rattle.ledger.specs.Answers.{Finding}
-use Rattle.ledger.specs.Book.{Book, post, turn, lookUp}
-use Rattle.ledger.specs.Calls.{lookAt, pageInto, postOf, turnTo, asks, after}
+use Rattle.ledger.specs.Book.{Book, post, turn, withdraw, lookUp}
+use Rattle.ledger.specs.Calls.{lookAt, pageInto, postOf, turnTo, withdrawal, asks, after}
 use Rattle.journal.specs.Journal.{Front, whole, cut, unknown}
 
 -- a look-up with its year; or why there is no call
 pub data Reply : Type 0 where
   posted : Outcome ℕ → Reply
   turned : Outcome ℕ → Reply
+  withdrawn : Outcome (Unit {0}) → Reply
   looked : ℕ → Outcome Finding → Reply
   cutShort : Reply
   notKnown : Reply
@@ -18,6 +19,7 @@ pub data Reply : Type 0 where
 abbrev pub replyTo : Book → Front → Reply
 replyTo b (whole (postOf s) n) = posted (post b s .answer)
 replyTo b (whole (turnTo m) n) = turned (turn b m .answer)
+replyTo b (whole withdrawal n) = withdrawn (withdraw b .answer)
 replyTo b (whole (asks (lookAt w y)) n) = looked y (lookUp b w y)
 replyTo b (whole (asks (pageInto w l)) n) = notKnown
 replyTo b cut = cutShort

@@ -4,14 +4,18 @@ use book::Book;
 use book::Finding;
 use book::Which;
 use grounds::Verdict;
+ghost use Prim.Native.Nat.{_≤_};
+ghost use lib.ListN.{length};
+ghost use Rattle.ledger.specs.Calls.{withdrawal};
 ghost use Rattle.book.specs.Views.{asBook};
-ghost use Rattle.journal.specs.Journal.{postFront, turnFront, lookFront};
-ghost use Rattle.journal.specs.Made.{NoCall, MakesFront, Makes};
+ghost use Rattle.journal.specs.Journal.{recordOf, postFront, turnFront, lookFront};
+ghost use Rattle.journal.specs.Made.{NoCall, MakesFront, MakesAtDesk, Makes};
 
 // What was called; or why nothing was.
 pub enum Reply {
     Posted,
     Turned,
+    Withdrawn,
     Looked(u64),
     CutShort,
     NotKnown,
@@ -105,9 +109,27 @@ fn make_look(book: Book, rest: &[u8]) -> Made
     }
 }
 
-// Any bytes.
-pub fn make(book: Book, rest: &[u8]) -> Made
-    ensures { λ r. ⌜ Makes (asBook book) (now (rest .entry)) r ⌝ }
+// The kind byte is the whole record.
+fn make_withdrawal(book: Book, rest: &[u8]) -> Made
+    requires { ⌜ 1 ≤ length (now rest) ⌝ }
+    ensures { λ r. ⌜ MakesFront (asBook book) (now (rest .entry)) (recordOf (now (rest .entry)) 1 withdrawal) r ⌝ }
+{
+    let withdrawn = book::withdraw(book);
+    let verdict = withdrawn.verdict;
+    let next = withdrawn.book;
+    Made {
+        reply: Reply::Withdrawn,
+        verdict: verdict,
+        month: 0,
+        finding: book::no_finding(),
+        taken: 1,
+        book: next,
+    }
+}
+
+// Any bytes; a withdrawal is unknown to the desk.
+pub fn make_at_desk(book: Book, rest: &[u8]) -> Made
+    ensures { λ r. ⌜ MakesAtDesk (asBook book) (now (rest .entry)) r ⌝ }
 {
     if rest.len() == 0 {
         return no_call(book, Reply::CutShort);
@@ -123,4 +145,17 @@ pub fn make(book: Book, rest: &[u8]) -> Made
         return make_look(book, rest);
     }
     no_call(book, Reply::NotKnown)
+}
+
+// Any bytes.
+pub fn make(book: Book, rest: &[u8]) -> Made
+    ensures { λ r. ⌜ Makes (asBook book) (now (rest .entry)) r ⌝ }
+{
+    if rest.len() < 1 {
+        return make_at_desk(book, rest);
+    }
+    if rest[0] == 0x57 {
+        return make_withdrawal(book, rest);
+    }
+    make_at_desk(book, rest)
 }

@@ -13,7 +13,7 @@ use Rattle.method.proofs.Places.{number-small}
 use Rattle.ledger.specs.Answers as answer
 use Rattle.ledger.specs.Answers.{answerPlace}
 use Rattle.ledger.specs.Book.{Book, Paged}
-use Rattle.ledger.specs.Calls.{postOf, turnTo, lookAt, pageInto, asks}
+use Rattle.ledger.specs.Calls.{postOf, turnTo, withdrawal, lookAt, pageInto, asks}
 use Rattle.ledger.proofs.Places.{answer-place}
 use Rattle.grounds.specs.declared.Ground.{Ground}
 use Rattle.grounds.specs.declared.Verdict.{Verdict}
@@ -23,10 +23,10 @@ use Rattle.big_endian.proofs.Putting.{inBytes-length, put-first, put-behind}
 use Rattle.book.specs.declared.Finding.{Finding}
 use Rattle.book.specs.Views.{asFinding, asPaged}
 use Rattle.journal.specs.Journal.{Front, whole, cut, unknown}
-use Rattle.journal.specs.Replies.{Reply, posted, turned, looked, cutShort, notKnown, replyTo}
+use Rattle.journal.specs.Replies.{Reply, posted, turned, withdrawn, looked, cutShort, notKnown, replyTo}
 use Rattle.journal.specs.Made.{asReply}
 use Rattle.journal.specs.declared.Reply as code
-use Rattle.journal.specs.declared.Reply.the-variants.{Posted, Turned, Looked, CutShort, NotKnown}
+use Rattle.journal.specs.declared.Reply.the-variants.{Posted, Turned, Withdrawn, Looked, CutShort, NotKnown}
 use Rattle.replay.specs.Returned.{returned, packed, foundBytes, lookReturned, pageReturned, replied}
 
 -- ---- a verdict as one number
@@ -125,6 +125,7 @@ page-returned v exit e n = ap (λ (k : ℕ). returned k exit) (n ∙ sym (packed
 abbrev replyPlace : Reply → ℕ
 replyPlace (posted o) = answerPlace o
 replyPlace (turned o) = answerPlace o
+replyPlace (withdrawn o) = answerPlace o
 replyPlace (looked y o) = answerPlace o
 replyPlace cutShort = 0
 replyPlace notKnown = 0
@@ -132,6 +133,7 @@ replyPlace notKnown = 0
 reply-place : (b : Book) (f : Front) → replyPlace (replyTo b f) ≤ 150
 reply-place b (whole (postOf s) n) = answer-place b (postOf s)
 reply-place b (whole (turnTo m) n) = answer-place b (turnTo m)
+reply-place b (whole withdrawal n) = answer-place b withdrawal
 reply-place b (whole (asks (lookAt w y)) n) = answer-place b (asks (lookAt w y))
 reply-place b (whole (asks (pageInto w l)) n) = omega arith
 reply-place b cut = omega arith
@@ -141,6 +143,7 @@ reply-place b unknown = omega arith
 abbrev pub called : code.Reply → Bool
 called Posted = true
 called Turned = true
+called Withdrawn = true
 called (Looked y) = true
 called CutShort = false
 called NotKnown = false
@@ -150,6 +153,7 @@ module _ (v : Verdict) (m : ℕ) (d : Finding) where
       (verdictNumber v + 256 * verdictPlace v ≡ replied (asReply x v m d)) × (verdictPlace v ≡ replyPlace (asReply x v m d))
   verdict-of Posted h = (sym (packed-is v m), sym (place-is v m))
   verdict-of Turned h = (sym (packed-is v m), sym (place-is v m))
+  verdict-of Withdrawn h = (sym (packed-is v tt), sym (place-is v tt))
   verdict-of (Looked y) h = (sym (packed-is v (asFinding d)), sym (place-is v (asFinding d)))
   verdict-of CutShort h = absurd (subst T (sym h) tt)
   verdict-of NotKnown h = absurd (subst T (sym h) tt)

@@ -12,7 +12,7 @@ use Rattle.ledger.specs.Book.{Book, Paged, lookUp, page}
 use Rattle.ledger.specs.Calls.{run}
 use Rattle.ledger.specs.Count.{Count, count}
 use Rattle.journal.specs.Journal.{decode}
-use Rattle.journal.specs.Replies.{Reply, posted, turned, looked, cutShort, notKnown}
+use Rattle.journal.specs.Replies.{Reply, posted, turned, withdrawn, looked, cutShort, notKnown}
 
 -- the book after the calls of a journal, made with an age limit
 abbrev pub bookAfter : ℕ → List ℕ → Book
@@ -63,6 +63,7 @@ pageReturned p = returned (packed (p .answer)) (p .buffer)
 abbrev pub replied : Reply → ℕ
 replied (posted o) = packed o
 replied (turned o) = packed o
+replied (withdrawn o) = packed o
 replied (looked y o) = packed o
 replied cutShort = 255
 replied notKnown = 255

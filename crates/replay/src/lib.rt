@@ -13,7 +13,7 @@ ghost use Prim.Native.Nat.{_+_, _*_, _≤_};
 ghost use lib.ListN.{length, drop};
 ghost use Rattle.ledger.specs.Calls.{lookAt, pageInto};
 ghost use Rattle.ledger.specs.Tells.{Tells};
-ghost use Rattle.ledger.specs.Demands.{Demand3};
+ghost use Rattle.ledger.specs.Demands.{Demand3, Withdraws};
 ghost use Rattle.grounds.specs.Verdicts.{asOutcome, resultOr, verdictNumber, verdictPlace};
 ghost use Rattle.book.specs.Views.{asWhich, asBook, asFinding, noFinding, asPaged};
 ghost use Rattle.journal.specs.Journal.{front, decode};
@@ -131,7 +131,8 @@ pub extern "C" fn tuyqorem_page_after(
 // The answer of one more call, the first record of `call`; 255 where that is no whole record.
 #[no_mangle]
 pub extern "C" fn tuyqorem_answer_after(age_limit: u64, calls: &[u8], call: &[u8]) -> u64
-    ensures { λ r. ⌜ r ≡ replied (replyTo (bookAfter «age_limit» (now (calls .entry))) (front (now (call .entry)))) ⌝ }
+    ensures returned { λ r. ⌜ r ≡ replied (replyTo (bookAfter «age_limit» (now (calls .entry))) (front (now (call .entry)))) ⌝ }
+    ensures told { λ _. ⌜ Withdraws «age_limit» (decode (now (calls .entry))) ⌝ }
 {
     let made = journal::make(replay(age_limit, calls), call);
     let reply = made.reply;
@@ -139,6 +140,7 @@ pub extern "C" fn tuyqorem_answer_after(age_limit: u64, calls: &[u8], call: &[u8
     match reply {
         Reply::Posted => packed(verdict),
         Reply::Turned => packed(verdict),
+        Reply::Withdrawn => packed(verdict),
         Reply::Looked(_) => packed(verdict),
         Reply::CutShort => 255,
         Reply::NotKnown => 255,

@@ -8,13 +8,13 @@ use Rattle.desk_core.proofs.Replying.{unknown-by}
 use Rattle.desk_core.proofs.answer.Statement.{statement}
 use Rattle.desk_core.proofs.answer.Tie as tie
 
-make-requires : tie.Need-make-requires
-make-requires c κs = search needs
+make-at-desk-requires : tie.Need-make-at-desk-requires
+make-at-desk-requires c κs = search needs
 
 put-reply-requires : tie.Need-put-reply-requires
 put-reply-requires c κs =
     let at-make = c .before .before .before in
-    let made = at-make .make .result in
+    let made = at-make .make-at-desk .result in
     omega (arith, reply-short (asReply (made .reply) (made .verdict) (made .month) (made .finding)), at-make)
 
 not-known-requires : tie.Need-not-known-requires
@@ -27,7 +27,7 @@ returns : tie.Need-returns
 returns c =
     let at-put = c .before .before .before in
     let lent = at-put .before .before in
-    let makes = lent .before .before .make .ensures in
+    let makes = lent .before .before .make-at-desk .ensures in
     record {
       book = makes .book;
       taken = makes .bytes;
@@ -37,4 +37,4 @@ returns c =
 
 pub answer-spec : {M : Type 1} → statement M
 answer-spec =
-    tie.close (tie.spec make-requires put-reply-requires not-known-requires same-length returns)
+    tie.close (tie.spec make-at-desk-requires put-reply-requires not-known-requires same-length returns)

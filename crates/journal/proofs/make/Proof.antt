@@ -1,69 +1,46 @@
--- By the kind byte.
-use Rattle.journal.proofs.Making.{at-end, at-post, at-turn, at-look, at-unknown}
+-- A withdrawal, or a record that the desk knows too.
+use denote.Ref.{now}
+use Rattle.journal.proofs.Making.{at-withdrawal, at-desk, no-kind}
 use borrow.Author.Needs.{needs}
 use Rattle.journal.proofs.make.Statement.{statement}
 use Rattle.journal.proofs.make.Tie as tie
 
-no-call-requires : tie.Need-no-call-requires
-no-call-requires c κs = search needs
+make-at-desk-requires : tie.Need-make-at-desk-requires
+make-at-desk-requires c κs = search needs
 
 returns : tie.Need-returns
-returns c = at-end _ _ _ (c .before .if1 .taken) (c .no-call .ensures)
+returns c =
+    let at-end = c .before in
+    let a = at-end .before .before .args in
+    at-desk (a .book) _ _ (no-kind (now (a .rest)) (at-end .if1 .taken)) (c .make-at-desk .ensures)
 
-shared-slice-read-kind : tie.Need-shared-slice-read-kind
-shared-slice-read-kind c = search needs
+shared-slice-read-if2 : tie.Need-shared-slice-read-if2
+shared-slice-read-if2 c = search needs
 
-make-post-requires : tie.Need-make-post-requires
-make-post-requires c κs = search needs
+make-withdrawal-requires : tie.Need-make-withdrawal-requires
+make-withdrawal-requires c κs = search needs
 
 returns-2 : tie.Need-returns-2
 returns-2 c =
-    let at-some = c .before .before .before in
-    at-post (at-some .before .before .args .book) _ _ (at-some .if1 .left) (c .before .if2 .taken) (c .make-post .ensures)
+    let at-kind = c .before in
+    at-withdrawal (at-kind .before .before .before .before .args .book) _ _ (at-kind .if2 .taken) (c .make-withdrawal .ensures)
 
-make-turn-requires : tie.Need-make-turn-requires
-make-turn-requires c κs = search needs
+make-at-desk-requires-2 : tie.Need-make-at-desk-requires-2
+make-at-desk-requires-2 c κs = search needs
 
 returns-3 : tie.Need-returns-3
 returns-3 c =
-    let at-post? = c .before .before in
-    let at-some = at-post? .before .before in
-    at-turn (at-some .before .before .args .book) _ _ (at-some .if1 .left) (at-post? .if2 .left) (c .before .if3 .taken) (c .make-turn .ensures)
-
-make-look-requires : tie.Need-make-look-requires
-make-look-requires c κs = search needs
-
-returns-4 : tie.Need-returns-4
-returns-4 c =
-    let at-turn? = c .before .before in
-    let at-post? = at-turn? .before in
-    let at-some = at-post? .before .before in
-    let book = at-some .before .before .args .book in
-    at-look book _ _ (at-some .if1 .left) (at-post? .if2 .left) (at-turn? .if3 .left) (c .before .if4 .taken) (c .make-look .ensures)
-
-no-call-requires-2 : tie.Need-no-call-requires-2
-no-call-requires-2 c κs = search needs
-
-returns-5 : tie.Need-returns-5
-returns-5 c =
-    let at-turn? = c .before .before in
-    let at-post? = at-turn? .before in
-    let at-some = at-post? .before .before in
-    let book = at-some .before .before .args .book in
-    at-unknown book _ _ (at-some .if1 .left) (at-post? .if2 .left) (at-turn? .if3 .left) (c .before .if4 .left) (c .no-call2 .ensures)
+    let at-kind = c .before in
+    at-desk (at-kind .before .before .before .before .args .book) _ _ (at-kind .if2 .left) (c .make-at-desk2 .ensures)
 
 pub make-spec : {M : Type 1} → statement M
 make-spec =
     tie.close
     (tie.spec
-    no-call-requires
+    make-at-desk-requires
     returns
-    shared-slice-read-kind
-    make-post-requires
+    shared-slice-read-if2
+    make-withdrawal-requires
     returns-2
-    make-turn-requires
-    returns-3
-    make-look-requires
-    returns-4
-    no-call-requires-2
-    returns-5)
+    make-at-desk-requires-2
+    returns-3)

@@ -5,6 +5,8 @@ use Prim.Native.Nat.{_+_, _*_, _≤_}
 use denote.Ref.{now}
 use Rattle.ledger.specs.Book.{Book}
 use Rattle.ledger.specs.Calls.{run}
+use Rattle.ledger.specs.Demands.{Withdraws}
+use Rattle.ledger.proofs.Withdrawing.{withdraws}
 use Rattle.grounds.specs.Verdicts.{verdictNumber, verdictPlace}
 use Rattle.journal.specs.Journal.{Front, front, decode}
 use Rattle.journal.specs.Replies.{replyTo}
@@ -39,6 +41,9 @@ module _ (c : tie.After-make) (x : Reply) (told : c .make .result .reply ≡ x) 
       sym (ap (λ (y : Reply). asReply y (made .verdict) (made .month) (made .finding)) told)
       ∙ c .make .ensures .reply
       ∙ ap (λ (b : Book). replyTo b record-read) (replayed .replay .ensures)
+
+  told-of-withdrawals : Withdraws (start .args .age-limit) (decode (now (start .args .calls)))
+  told-of-withdrawals = withdraws (start .args .age-limit) (decode (now (start .args .calls)))
 
   place : called x ≡ true → verdictPlace (made .verdict) ≤ 150
   place h = call-place (made .verdict) (made .month) (made .finding) x book record-read reply h
@@ -79,29 +84,46 @@ packed-requires-3 c κs =
 enum-told-4 : tie.Need-enum-told-4
 enum-told-4 c = search needs
 
+packed-requires-4 : tie.Need-packed-requires-4
+packed-requires-4 c κs =
+    let told = c .enum-told4 .given .1 in
+    place (c .before .before) _ told refl
+
 enum-told-5 : tie.Need-enum-told-5
 enum-told-5 c = search needs
+
+enum-told-6 : tie.Need-enum-told-6
+enum-told-6 c = search needs
 
 returns : tie.Need-returns
 returns c =
     let told = c .before .enum-told .given .1 in
-    c .packed .ensures ∙ number (c .before .before .before) _ told refl
+    (c .packed .ensures ∙ number (c .before .before .before) _ told refl, told-of-withdrawals (c .before .before .before) _ told)
 
 returns-2 : tie.Need-returns-2
 returns-2 c =
     let told = c .before .enum-told2 .given .1 in
-    c .packed2 .ensures ∙ number (c .before .before .before) _ told refl
+    (c .packed2 .ensures ∙ number (c .before .before .before) _ told refl, told-of-withdrawals (c .before .before .before) _ told)
 
 returns-3 : tie.Need-returns-3
 returns-3 c =
     let told = c .before .enum-told3 .given .1 in
-    c .packed3 .ensures ∙ number (c .before .before .before) _ told refl
+    (c .packed3 .ensures ∙ number (c .before .before .before) _ told refl, told-of-withdrawals (c .before .before .before) _ told)
 
 returns-4 : tie.Need-returns-4
-returns-4 c = ap replied (reply (c .before .before) _ (c .enum-told4 .given .1))
+returns-4 c =
+    let told = c .before .enum-told4 .given .1 in
+    (c .packed4 .ensures ∙ number (c .before .before .before) _ told refl, told-of-withdrawals (c .before .before .before) _ told)
 
 returns-5 : tie.Need-returns-5
-returns-5 c = ap replied (reply (c .before .before) _ (c .enum-told5 .given .1))
+returns-5 c =
+    let told = c .enum-told5 .given .1 in
+    (ap replied (reply (c .before .before) _ told), told-of-withdrawals (c .before .before) _ told)
+
+returns-6 : tie.Need-returns-6
+returns-6 c =
+    let told = c .enum-told6 .given .1 in
+    (ap replied (reply (c .before .before) _ told), told-of-withdrawals (c .before .before) _ told)
 
 pub tuyqorem-answer-after-spec : {M : Type 1} → statement M
 tuyqorem-answer-after-spec =
@@ -116,9 +138,12 @@ tuyqorem-answer-after-spec =
     enum-told-3
     packed-requires-3
     enum-told-4
+    packed-requires-4
     enum-told-5
+    enum-told-6
     returns
     returns-2
     returns-3
     returns-4
-    returns-5)
+    returns-5
+    returns-6)

@@ -53,6 +53,9 @@ enum-told-3 c = search needs
 enum-told-4 : tie.Need-enum-told-4
 enum-told-4 c = search needs
 
+enum-told-5 : tie.Need-enum-told-5
+enum-told-5 c = search needs
+
 same-length : tie.Need-same-length
 same-length c = search needs
 
@@ -94,6 +97,11 @@ returns-5 c =
     let a = c .before .before .before .args in
     rw (no-line (a .verdict) (a .month) (a .found) (c .enum-told4 .given .1) refl) at (nothing (a .text .now) (a .at))
 
+returns-6 : tie.Need-returns-6
+returns-6 c =
+    let a = c .before .before .before .args in
+    rw (no-line (a .verdict) (a .month) (a .found) (c .enum-told5 .given .1) refl) at (nothing (a .text .now) (a .at))
+
 pub put-reply-spec : {M : Type 1} → statement M
 put-reply-spec =
     tie.close
@@ -109,6 +117,7 @@ put-reply-spec =
     put-answer-requires-3
     enum-told-3
     enum-told-4
+    enum-told-5
     same-length
     returns
     same-length-2
@@ -116,4 +125,5 @@ put-reply-spec =
     same-length-3
     returns-3
     returns-4
-    returns-5)
+    returns-5
+    returns-6)
