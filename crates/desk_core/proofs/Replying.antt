@@ -20,7 +20,7 @@ use Rattle.journal.specs.Replies.{posted, turned, withdrawn, looked, cutShort, 
 use Rattle.journal.specs.declared.Made.{Made}
 use Rattle.journal.specs.Made.{asReply, MakesAtDesk}
 use Rattle.desk_core.specs.Lines.{line, answerLine, lineOf}
-use Rattle.desk_core.specs.Handed.{isNotKnown, isUnknown}
+use Rattle.desk_core.specs.Handed.{isNotKnown}
 use Rattle.desk_core.proofs.Fronts.{HasRecord, front-stands}
 
 pub refused-line : (letter : ℕ) (ns : List ℕ) {v : Verdict} {g : Ground} → v ≡ Refused g →
@@ -47,6 +47,11 @@ module _ (v : Verdict) (m : ℕ) (f : Finding) {r : Reply} where
   no-line e n = rw e n
 
 -- ---- an unknown kind
+
+abbrev pub isUnknown : Front → Bool
+isUnknown (whole c n) = false
+isUnknown cut = false
+isUnknown unknown = true
 
 abbrev strange : replies.Reply → Bool
 strange (posted o) = false

@@ -13,25 +13,27 @@ use Rattle.book.specs.Views.{asBook}
 use Rattle.journal.specs.Journal.{Front, whole, cut, unknown, deskFront}
 use Rattle.journal.specs.Replies as journal
 use Rattle.journal.specs.Replies.{replyTo, bookAfter}
+use Rattle.journal.specs.declared.Made.{Made}
+use Rattle.journal.specs.Made.{asReply, MakesAtDesk}
 use Rattle.desk_core.specs.declared.Desk.{Desk as DeclaredDesk}
-use Rattle.desk_core.specs.declared.Answered.{Answered}
 use Rattle.desk_core.specs.declared.Served.{Served}
 use Rattle.desk_core.specs.declared.Passed.{Passed}
 use Rattle.desk_core.specs.Lines.{lineOf}
 use Rattle.desk_core.specs.Desk.{Serving, stopping, behind, lineRoom, servedAt, servedFrom, served, Desk, pass}
-use Rattle.desk_core.specs.Handed.{isUnknown, Answers, Serves, Waits, asDesk, Passes}
+use Rattle.desk_core.specs.Handed.{Puts, isNotKnown, Serves, Waits, asDesk, Passes}
 use Rattle.desk_core.proofs.Lengths.{reply-short}
 use Rattle.desk_core.proofs.Fronts.{front-stands, cut-short, taken-within}
 use Rattle.desk_core.proofs.Passes.{roomy, full, takes-nothing}
+use Rattle.desk_core.proofs.Replying.{isUnknown, unknown-by}
 
 -- ---- by what stands at the front
 
--- no whole record: nothing is served, and nothing was put
+-- no whole record: nothing is served
 stops-at : (x : Front) (room : ℕ) (b : Book) (s : List ℕ) (next : ℕ → Book → List ℕ → Serving) → deskFront s ≡ x → journal.taken x ≡ 0 →
-    (servedAt x room b s next ≡ stopping b (isUnknown x)) × (lineOf (replyTo b x) ≡ [])
+    servedAt x room b s next ≡ stopping b (isUnknown x)
 stops-at (whole c n) room b s next e z = absurd (omega (arith, front-stands s [] .within e .0))
-stops-at cut room b s next e z = (refl, refl)
-stops-at unknown room b s next e z = (refl, refl)
+stops-at cut room b s next e z = refl
+stops-at unknown room b s next e z = refl
 
 -- a whole record: its line, and then the pass over what is behind it
 goes-at : (x : Front) (room : ℕ) (b : Book) (s : List ℕ) (next : ℕ → Book → List ℕ → Serving) → 0 < journal.taken x →
@@ -72,54 +74,53 @@ begins b held text =
 
 module _ {room : ℕ} {b : Book} {held : List ℕ} {a : Book} {taken : ℕ} {text : List ℕ} {written : ℕ} (p : Progress room b held a taken text written) where
   -- where no more is served
-  handed : (x : Bool) (d : DeclaredBook) (exit : List ℕ) → asBook d ≡ a → take written exit ≡ take written text →
-      servedFrom (p .most) (room - written) a (drop taken held) ≡ stopping a x →
-      Serves (served room b held) exit (record { book = d; taken = taken; written = written; unknown = x })
-  handed x d exit e t stopped =
+  handed : (x : Bool) (d : DeclaredBook) → asBook d ≡ a → servedFrom (p .most) (room - written) a (drop taken held) ≡ stopping a x →
+      Serves (served room b held) text (record { book = d; taken = taken; written = written; unknown = x })
+  handed x d e stopped =
       let all = p .so-far ∙ ap (behind taken (take written text)) stopped in
       let long = length-take-le written text (omega (arith, p .fits, p .same-length)) in
       record {
         book = e ∙ sym (ap (λ (r : Serving). r .book) all);
         taken = sym (ap (λ (r : Serving). r .taken) all ∙ add-zero taken);
         written = sym (ap (λ (r : Serving). length (r .text)) all ∙ ap length (append-nil (take written text)) ∙ long);
-        text-put = t ∙ sym (ap (λ (r : Serving). r .text) all ∙ append-nil (take written text));
+        text-put = sym (ap (λ (r : Serving). r .text) all ∙ append-nil (take written text));
         unknown = sym (ap (λ (r : Serving). r .unknown) all);
       }
 
   pub ends-full : (d : DeclaredBook) → asBook d ≡ a → room - written < lineRoom →
       Serves (served room b held) text (record { book = d; taken = taken; written = written; unknown = false })
-  ends-full d e h = handed false d text e refl (full (p .most) (room - written) a (drop taken held) h)
+  ends-full d e h = handed false d e (full (p .most) (room - written) a (drop taken held) h)
 
-  module _ {exit : List ℕ} {r : Answered} (q : Answers a (drop taken held) text written exit r) (k : lineRoom ≤ room - written) where
+  -- the next record's call was made
+  module _ {r : Made} (q : MakesAtDesk a (drop taken held) r) (k : lineRoom ≤ room - written) where
     abbrev next : Front
     next = deskFront (drop taken held)
 
     step : servedFrom (p .most) (room - written) a (drop taken held) ≡ servedAt next (room - written) a (drop taken held) (servedFrom (p .most - 1))
     step = roomy (p .most) (room - written) a (drop taken held) (omega (arith, p .enough, length-drop taken held)) k
 
-    pub ends-here : (d : DeclaredBook) → asBook d ≡ a → r .taken ≡ 0 →
-        Serves (served room b held) exit (record { book = d; taken = taken; written = written; unknown = r .unknown })
-    ends-here d e z =
-        let stop = stops-at next (room - written) a (drop taken held) (servedFrom (p .most - 1)) refl (sym (q .taken) ∙ z) in
-        let put = rw (stop .1) at (q .line) in
-        handed (r .unknown) d exit e
-        (ap (λ (n : ℕ). take n exit) (sym (put .ends ∙ add-zero written)) ∙ put .written ∙ append-nil (take written text))
-        (step ∙ stop .0 ∙ ap (stopping a) (sym (q .unknown)))
+    pub ends-here : (d : DeclaredBook) {x : Bool} → asBook d ≡ a → x ≡ isNotKnown (r .reply) → r .taken ≡ 0 →
+        Serves (served room b held) text (record { book = d; taken = taken; written = written; unknown = x })
+    ends-here d {x} e u z =
+        let stop = stops-at next (room - written) a (drop taken held) (servedFrom (p .most - 1)) refl (sym (q .bytes) ∙ z) in
+        handed x d e (step ∙ stop ∙ ap (stopping a) (sym (u ∙ unknown-by q)))
 
-    pub goes-on : length exit ≡ room → 0 < r .taken → Progress room b held (asBook (r .book)) (taken + r .taken) exit (r .end)
-    goes-on l h =
+    pub goes-on : {exit : List ℕ} {end : ℕ} → Puts (lineOf (asReply (r .reply) (r .verdict) (r .month) (r .finding))) text written exit end →
+        length exit ≡ room → 0 < r .taken → Progress room b held (asBook (r .book)) (taken + r .taken) exit end
+    goes-on {exit} {end} puts l h =
         let line = lineOf (replyTo a next) in
+        let put = rw (q .reply) at puts in
         let inside = taken-within (drop taken held) in
-        let room-left : room - r .end ≡ room - written - length line = omega (arith, q .line .ends) in
-        let walked = goes-at next (room - written) a (drop taken held) (servedFrom (p .most - 1)) (omega (arith, q .taken)) in
+        let room-left : room - end ≡ room - written - length line = omega (arith, put .ends) in
+        let walked = goes-at next (room - written) a (drop taken held) (servedFrom (p .most - 1)) (omega (arith, q .bytes)) in
         record {
           most = p .most - 1;
-          within = omega (arith, p .within, q .taken, inside, length-drop taken held);
+          within = omega (arith, p .within, q .bytes, inside, length-drop taken held);
           enough = omega (arith, p .enough);
-          fits = omega (arith, q .line .ends, reply-short (replyTo a next));
+          fits = omega (arith, put .ends, reply-short (replyTo a next));
           same-length = l;
           so-far =
-              rw (room-left, q .book, q .line .written, q .taken, ← drop-drop (journal.taken next) taken held)
+              rw (room-left, q .book, put .written, q .bytes, ← drop-drop (journal.taken next) taken held)
               (p .so-far ∙ ap (behind taken (take written text)) (step ∙ walked) ∙ behind-behind taken (journal.taken next) (take written text) line _);
         }
 

@@ -8,13 +8,11 @@ use Rattle.ledger.specs.Book.{Book}
 use Rattle.book.specs.Views.{asBook}
 use Rattle.journal.specs.declared.Reply.{Reply}
 use Rattle.journal.specs.declared.Reply.the-variants as reply
-use Rattle.journal.specs.Journal.{Front, whole, cut, unknown, deskFront}
-use Rattle.journal.specs.Replies as journal
-use Rattle.journal.specs.Replies.{replyTo, bookAfter}
+use Rattle.journal.specs.declared.Asked.{Asked}
+use Rattle.journal.specs.Made.{asReply}
 use Rattle.desk_core.specs.Lines.{lineOf}
 use Rattle.desk_core.specs.Desk.{longestRecord, lineRoom, Serving, Desk, opened, pass, passed, withBlock}
 use Rattle.desk_core.specs.declared.Desk as code
-use Rattle.desk_core.specs.declared.Answered.{Answered}
 use Rattle.desk_core.specs.declared.Served.{Served}
 use Rattle.desk_core.specs.declared.Passed.{Passed}
 
@@ -25,6 +23,9 @@ pub record Puts (bytes entry : List ℕ) (at : ℕ) (exit : List ℕ) (end : ℕ
 
 -- ---- a record answered
 
+abbrev pub askedLine : Asked → List ℕ
+askedLine r = lineOf (asReply (reply.Looked (r .year)) (r .verdict) 0 (r .finding))
+
 abbrev pub isNotKnown : Reply → Bool
 isNotKnown reply.Posted = false
 isNotKnown reply.Turned = false
@@ -32,18 +33,6 @@ isNotKnown reply.Withdrawn = false
 isNotKnown (reply.Looked year) = false
 isNotKnown reply.CutShort = false
 isNotKnown reply.NotKnown = true
-
-abbrev pub isUnknown : Front → Bool
-isUnknown (whole c n) = false
-isUnknown cut = false
-isUnknown unknown = true
-
--- the call at the front of the bytes s made on a book, its line put
-pub record Answers (b : Book) (s entry : List ℕ) (at : ℕ) (exit : List ℕ) (r : Answered) : Type 0 where
-  pub book : asBook (r .book) ≡ bookAfter b (deskFront s)
-  pub taken : r .taken ≡ journal.taken (deskFront s)
-  pub line : Puts (lineOf (replyTo b (deskFront s))) entry at exit (r .end)
-  pub unknown : r .unknown ≡ isUnknown (deskFront s)
 
 -- ---- a pass made, with its lines at the front of a text
 

@@ -2,6 +2,7 @@
 mod lines;
 
 use book::Book;
+use journal::Asked;
 use journal::Reply;
 use lines::put_line;
 use lines::put_reply;
@@ -11,7 +12,7 @@ ghost use lib.ListN.{length, take, drop};
 ghost use Rattle.book.specs.Views.{asBook};
 ghost use Rattle.desk_core.specs.Lines.{brokenLine};
 ghost use Rattle.desk_core.specs.Desk.{lineRoom, served};
-ghost use Rattle.desk_core.specs.Handed.{isNotKnown, Answers, Serves, Waits, asDesk, Opens, Passes, mostRead, Reads};
+ghost use Rattle.desk_core.specs.Handed.{Puts, askedLine, isNotKnown, Serves, Waits, asDesk, Opens, Passes, mostRead, Reads};
 
 // Any line's room.
 const LINE_ROOM: usize = 128;
@@ -25,14 +26,6 @@ struct Desk {
     book: Book,
     offset: u64,
     held: usize,
-}
-
-// The book after the record at the front of some bytes, the bytes that it takes and where its line ends; whether its kind is unknown.
-struct Answered {
-    book: Book,
-    taken: usize,
-    end: usize,
-    unknown: bool,
 }
 
 // The book after the whole records at the front of the bytes held, how many bytes they take and how many their lines have; whether
@@ -65,25 +58,18 @@ fn not_known(reply: Reply) -> bool
     }
 }
 
-// Makes the call at the front of the bytes and puts its line. Where no whole record stands there, nothing is made or put.
-fn answer(book: Book, rest: &[u8], text: &mut [u8], at: usize) -> Answered
+// The line of a look-up that was asked.
+fn put_asked(asked: Asked, text: &mut [u8], at: usize) -> usize
     requires { ⌜ at + lineRoom ≤ length (now text) ⌝ }
-    ensures { λ r. ⌜ Answers (asBook book) (now (rest .entry)) (now (text .entry)) at (now (text .exit)) r ⌝ }
+    ensures { λ r. ⌜ Puts (askedLine asked) (now (text .entry)) at (now (text .exit)) r ⌝ }
 {
-    let made = journal::make_at_desk(book, rest);
-    let reply = made.reply;
-    let verdict = made.verdict;
-    let found = made.finding;
-    let after = made.book;
-    Answered {
-        book: after,
-        taken: made.taken,
-        end: put_reply(reply, verdict, made.month, found, text, at),
-        unknown: not_known(reply),
-    }
+    let verdict = asked.verdict;
+    let found = asked.finding;
+    put_reply(Reply::Looked(asked.year), verdict, 0, found, text, at)
 }
 
-// Answers the whole records at the front of what is held, while the text has room for one line more.
+// Makes the calls of the whole records at the front of what is held and puts their lines, while the text has room for one line more.
+// Look-ups are asked, which copies no book.
 fn serve_held(book: Book, held: &[u8], text: &mut [u8]) -> Served
     ensures pass { λ r. ⌜ Serves (served (length (now (text .entry))) (asBook book) (now (held .entry))) (now (text .exit)) r ⌝ }
     ensures waits { λ r. ⌜ Waits (length (now (text .entry))) (now (held .entry)) (r .taken) (r .unknown) ⌝ }
@@ -92,19 +78,28 @@ fn serve_held(book: Book, held: &[u8], text: &mut [u8]) -> Served
     let mut taken: usize = 0;
     let mut written: usize = 0;
     while LINE_ROOM <= text.len() - written {
-        let answered = answer(after, &held[taken..], text, written);
-        let n = answered.taken;
-        if n == 0 {
-            return Served {
-                book: after,
-                taken: taken,
-                written: written,
-                unknown: answered.unknown,
-            };
+        let asked = journal::ask(after, &held[taken..]);
+        if asked.is_look {
+            written = put_asked(asked, text, written);
+            taken += 2;
+        } else {
+            let made = journal::make_at_desk(after, &held[taken..]);
+            let n = made.taken;
+            let reply = made.reply;
+            if n == 0 {
+                return Served {
+                    book: after,
+                    taken: taken,
+                    written: written,
+                    unknown: not_known(reply),
+                };
+            }
+            let verdict = made.verdict;
+            let found = made.finding;
+            written = put_reply(reply, verdict, made.month, found, text, written);
+            after = made.book;
+            taken += n;
         }
-        after = answered.book;
-        written = answered.end;
-        taken += n;
     }
     Served {
         book: after,

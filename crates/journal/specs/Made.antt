@@ -1,8 +1,10 @@
 -- What making the call at the front of some bytes hands back.
+use mathlib.Core.Bool.{Bool, true, false, _&&_}
 use mathlib.Core.List.{List}
 use mathlib.Core.Path.{_≡_}
 use Prim.Native.Nat.{ℕ, _≤_}
-use lib.ListN.{length}
+use lib.Dec.{leb, eqb}
+use lib.ListN.{length, getD}
 use Rattle.ledger.specs.Answers as answer
 use Rattle.ledger.specs.Book.{Book}
 use Rattle.grounds.specs.declared.Verdict.{Verdict}
@@ -17,6 +19,7 @@ use Rattle.journal.specs.Replies.{posted, turned, withdrawn, looked, cut
 use Rattle.journal.specs.declared.Reply.{Reply}
 use Rattle.journal.specs.declared.Reply.the-variants.{Posted, Turned, Withdrawn, Looked, CutShort, NotKnown}
 use Rattle.journal.specs.declared.Made.{Made}
+use Rattle.journal.specs.declared.Asked.{Asked}
 
 abbrev pub asReply : Reply → Verdict → ℕ → Finding → replies.Reply
 asReply Posted v m f = posted (asOutcome v m)
@@ -68,3 +71,25 @@ MakesAtDesk b s r = MakesFront b s (deskFront s) r
 -- any record
 abbrev pub Makes : Book → List ℕ → Made → Type 0
 Makes b s r = MakesFront b s (front s) r
+
+-- ---- a look-up's record, by itself
+
+-- where none is asked
+pub record NotAsked (r : Asked) : Type 0 where
+  pub no-look : r .«is_look» ≡ false
+  pub year : r .year ≡ 0
+  pub passed : r .verdict ≡ Passed
+  pub finding : asFinding (r .finding) ≡ noFinding
+
+-- it stands whole at the front
+abbrev pub startsLook : List ℕ → Bool
+startsLook s = leb 2 (length s) && eqb (getD s 0 0) 0x4C
+
+-- what it makes, the book staying as it is
+abbrev pub lookMade : code.Book → Asked → Made
+lookMade book r = record { reply = Looked (r .year); verdict = r .verdict; month = 0; finding = r .finding; taken = 2; book = book }
+
+pub record Asks (book : code.Book) (s : List ℕ) (r : Asked) : Type 0 where
+  pub is-look : r .«is_look» ≡ startsLook s
+  pub made : startsLook s ≡ true → MakesAtDesk (asBook book) s (lookMade book r)
+  pub not-asked : startsLook s ≡ false → NotAsked r

@@ -4,12 +4,13 @@ use book::Book;
 use book::Finding;
 use book::Which;
 use grounds::Verdict;
+ghost use mathlib.Core.Path.{_≡_};
 ghost use Prim.Native.Nat.{_≤_};
-ghost use lib.ListN.{length};
+ghost use lib.ListN.{length, getD};
 ghost use Rattle.ledger.specs.Calls.{withdrawal};
 ghost use Rattle.book.specs.Views.{asBook};
-ghost use Rattle.journal.specs.Journal.{recordOf, postFront, turnFront, lookFront};
-ghost use Rattle.journal.specs.Made.{NoCall, MakesFront, MakesAtDesk, Makes};
+ghost use Rattle.journal.specs.Journal.{recordOf, postFront, turnFront};
+ghost use Rattle.journal.specs.Made.{NoCall, NotAsked, Asks, MakesFront, MakesAtDesk, Makes};
 
 // What was called; or why nothing was.
 pub enum Reply {
@@ -29,6 +30,14 @@ pub struct Made {
     pub finding: Finding,
     pub taken: usize,
     pub book: Book,
+}
+
+// A look-up's record at the front of some bytes; where none is, all else is zero.
+pub struct Asked {
+    pub is_look: bool,
+    pub year: u64,
+    pub verdict: Verdict,
+    pub finding: Finding,
 }
 
 // The book is handed back as it was.
@@ -89,18 +98,53 @@ fn make_turn(book: Book, rest: &[u8]) -> Made
     }
 }
 
-fn make_look(book: Book, rest: &[u8]) -> Made
-    ensures { λ r. ⌜ MakesFront (asBook book) (now (rest .entry)) (lookFront (now (rest .entry))) r ⌝ }
+fn not_asked() -> Asked
+    ensures { λ r. ⌜ NotAsked r ⌝ }
+{
+    Asked {
+        is_look: false,
+        year: 0,
+        verdict: Verdict::Passed,
+        finding: book::no_finding(),
+    }
+}
+
+// Makes the look-up at the front of some bytes, if one stands there whole. It leaves the book as it is and does not hand it back, for
+// whoever makes many: a book handed back is copied.
+pub fn ask(book: Book, rest: &[u8]) -> Asked
+    ensures { λ r. ⌜ Asks book (now (rest .entry)) r ⌝ }
 {
     if rest.len() < 2 {
-        return no_call(book, Reply::CutShort);
+        return not_asked();
+    }
+    if rest[0] != 0x4C {
+        return not_asked();
     }
     let year = big_endian::wide(rest[1]);
     let looked = book::look_up(book, Which::Plain, year);
     let verdict = looked.verdict;
     let finding = looked.finding;
+    Asked {
+        is_look: true,
+        year: year,
+        verdict: verdict,
+        finding: finding,
+    }
+}
+
+// A record of this kind.
+fn make_look(book: Book, rest: &[u8]) -> Made
+    requires { ⌜ getD (now rest) 0 0 ≡ 0x4C ⌝ }
+    ensures { λ r. ⌜ MakesAtDesk (asBook book) (now (rest .entry)) r ⌝ }
+{
+    let asked = ask(book, rest);
+    if !asked.is_look {
+        return no_call(book, Reply::CutShort);
+    }
+    let verdict = asked.verdict;
+    let finding = asked.finding;
     Made {
-        reply: Reply::Looked(year),
+        reply: Reply::Looked(asked.year),
         verdict: verdict,
         month: 0,
         finding: finding,

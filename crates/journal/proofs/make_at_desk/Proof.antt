@@ -1,5 +1,5 @@
 -- By the kind byte.
-use Rattle.journal.proofs.Making.{at-end, at-post, at-turn, at-look, at-unknown}
+use Rattle.journal.proofs.Making.{at-end, at-post, at-turn, at-unknown}
 use borrow.Author.Needs.{needs}
 use Rattle.journal.proofs.make_at_desk.Statement.{statement}
 use Rattle.journal.proofs.make_at_desk.Tie as tie
@@ -34,12 +34,7 @@ make-look-requires : tie.Need-make-look-requires
 make-look-requires c κs = search needs
 
 returns-4 : tie.Need-returns-4
-returns-4 c =
-    let at-turn? = c .before .before in
-    let at-post? = at-turn? .before in
-    let at-some = at-post? .before .before in
-    let book = at-some .before .before .args .book in
-    at-look book _ _ (at-some .if1 .left) (at-post? .if2 .left) (at-turn? .if3 .left) (c .before .if4 .taken) (c .make-look .ensures)
+returns-4 c = c .make-look .ensures
 
 no-call-requires-2 : tie.Need-no-call-requires-2
 no-call-requires-2 c κs = search needs

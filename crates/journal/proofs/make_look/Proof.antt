@@ -1,42 +1,29 @@
--- The record is cut, or the book is looked up.
+-- The look-up that stands whole at the front, or a record that is cut.
+use mathlib.Core.Path.{sym, _∙_}
 use denote.Ref.{now}
-use Rattle.journal.proofs.Making.{record-cut, look-made}
+use Rattle.book.proofs.Booking.{so, not-so}
+use Rattle.journal.proofs.Making.{record-cut, at-look, starts-cut}
 use borrow.Author.Needs.{needs}
 use Rattle.journal.proofs.make_look.Statement.{statement}
 use Rattle.journal.proofs.make_look.Tie as tie
+
+ask-requires : tie.Need-ask-requires
+ask-requires c κs = search needs
 
 no-call-requires : tie.Need-no-call-requires
 no-call-requires c κs = search needs
 
 returns : tie.Need-returns
-returns c = record-cut _ 2 _ (c .before .if1 .taken) (c .no-call .ensures)
-
-shared-slice-read-wide : tie.Need-shared-slice-read-wide
-shared-slice-read-wide c = search needs
-
-wide-requires : tie.Need-wide-requires
-wide-requires c κs = search needs
-
-look-up-requires : tie.Need-look-up-requires
-look-up-requires c κs = search needs
+returns c =
+    let at-asked = c .before .before .before in
+    let s = at-asked .before .before in
+    let none = sym (at-asked .ask .ensures .is-look) ∙ not-so (at-asked .ask .result .«is_look») (c .before .if1 .taken) in
+    at-look (s .args .book) (now (s .args .rest)) _ (s .pre) (record-cut _ 2 _ (starts-cut (now (s .args .rest)) none (s .pre)) (c .no-call .ensures))
 
 returns-2 : tie.Need-returns-2
 returns-2 c =
-    let at-look = c .before in
-    let at-year = at-look .before in
-    let at-room = at-year .before .before in
-    let a = at-room .before .before .args in
-    let e = at-look .look-up .ensures in
-    let year = at-year .wide in
-    rw (← year .ensures .0) (look-made (a .book) (now (a .rest)) 2 (at-room .if1 .left) (year .result) (at-look .look-up .result) (e .0) (e .1))
+    let at-asked = c .before .before .before in
+    at-asked .ask .ensures .made (sym (at-asked .ask .ensures .is-look) ∙ so (at-asked .ask .result .«is_look») (c .before .if1 .left))
 
 pub make-look-spec : {M : Type 1} → statement M
-make-look-spec =
-    tie.close
-    (tie.spec
-    no-call-requires
-    returns
-    shared-slice-read-wide
-    wide-requires
-    look-up-requires
-    returns-2)
+make-look-spec = tie.close (tie.spec ask-requires no-call-requires returns returns-2)
