@@ -1,4 +1,7 @@
-//! The book: its age limit, the standing curves with their month, and the told month.
+//! The book: its age limit, the standing curves with their month, what stood before the latest
+//! accepted posts, and the told month.
+
+use std::collections::VecDeque;
 
 use crate::curve::{Curve, Curves, Which, YEARS};
 use crate::enclosure::Enclosure;
@@ -12,6 +15,9 @@ pub use crate::page::PAGE_LENGTH;
 /// The largest age limit, in months. No curve gets older: sheets' months start at 0 and the
 /// last month that can be told is 2,399.
 pub const LARGEST_AGE_LIMIT: u64 = 2_399;
+
+/// So many posts can be taken back, one after another.
+pub const DEEPEST: usize = 3;
 
 /// The curves of a sheet and its month.
 #[derive(Clone, Debug, PartialEq, Eq)]
@@ -34,6 +40,9 @@ pub struct Book {
     age_limit: u64,
     told_month: u16,
     standing: Option<Standing>,
+    /// What stood before each of the latest accepted posts that can be withdrawn, the latest last;
+    /// at most `DEEPEST`.
+    ways_back: VecDeque<Option<Standing>>,
 }
 
 /// The answer to a look-up.
@@ -49,22 +58,24 @@ pub struct Found {
 }
 
 impl Book {
-    /// A fresh book: told month 0, no curve. A limit above the largest makes a book with the
-    /// largest.
+    /// A fresh book: told month 0, no curve, nothing to withdraw. A limit above the largest makes a
+    /// book with the largest.
     pub fn new(age_limit: u64) -> Self {
         Book {
             age_limit: age_limit.min(LARGEST_AGE_LIMIT),
             told_month: 0,
             standing: None,
+            ways_back: VecDeque::new(),
         }
     }
 
-    /// The book that the same calls leave on one made with `age_limit`: no post and no turn
-    /// looks at the limit. It spares those who compare under many limits the work of the posts.
+    /// The book that the same calls leave on one made with `age_limit`: no post, turn
+    /// or withdrawal looks at the limit. It spares those who compare under many limits the work of the posts.
     pub fn with_age_limit(&self, age_limit: u64) -> Self {
         Book {
             told_month: self.told_month,
             standing: self.standing.clone(),
+            ways_back: self.ways_back.clone(),
             ..Book::new(age_limit)
         }
     }
@@ -86,11 +97,34 @@ impl Book {
             return Err(Refusal::plain(6));
         }
         let curves = Curves::of(&sheet)?;
-        self.standing = Some(Standing {
+        let before = self.standing.replace(Standing {
             month: sheet.month,
             curves,
         });
+        self.remember(before);
         Ok(sheet.month)
+    }
+
+    /// Keeps the way back to what stood before an accepted post; on a book that is as deep as can
+    /// be only the oldest way is forgotten.
+    fn remember(&mut self, before: Option<Standing>) {
+        if self.ways_back.len() == DEEPEST {
+            self.ways_back.pop_front();
+        }
+        self.ways_back.push_back(before);
+    }
+
+    /// Takes back the latest accepted post that is not withdrawn: curves and month are again what
+    /// stood before it, be it none, and the told month remains. Or refuses on ground 18 and leaves
+    /// the book unchanged.
+    pub fn withdraw(&mut self) -> Result<(), Refusal> {
+        self.standing = self.ways_back.pop_back().ok_or(Refusal::plain(18))?;
+        Ok(())
+    }
+
+    /// How many posts can be taken back, one after another.
+    pub fn depth(&self) -> usize {
+        self.ways_back.len()
     }
 
     /// Sets the told month and hands it back, or refuses on ground 11 or 12 and
@@ -153,8 +187,8 @@ impl Book {
         self.standing.as_ref().map(|standing| self.age(standing))
     }
 
-    /// The named curve with what it stands among, or ground 14: no post was accepted, or the
-    /// last accepted sheet had no adjustment.
+    /// The named curve with what it stands among, or ground 14: no post is accepted and not
+    /// withdrawn, or the last such sheet has no adjustment.
     fn held(&self, which: Which) -> Result<(&Standing, &Curve), Refusal> {
         let standing = self.standing.as_ref().ok_or(Refusal::plain(14))?;
         let curve = standing.curves.get(which).ok_or(Refusal::plain(14))?;

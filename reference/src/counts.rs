@@ -4,9 +4,8 @@ use std::fmt;
 
 use crate::adjusted::AdjustedPosts;
 use crate::book::{Book, LARGEST_AGE_LIMIT};
-use crate::desk::{make, Call};
 use crate::dropped::DroppedPosts;
-use crate::journal::calls;
+use crate::journal::{calls, make};
 
 /// How often something was posted, and how often it was accepted.
 #[derive(Clone, Copy, Debug, Default, PartialEq, Eq)]
@@ -67,10 +66,8 @@ pub fn answered_posts(journal: &[u8]) -> Vec<(Vec<u8>, u8)> {
     let mut book = Book::new(LARGEST_AGE_LIMIT);
     let mut posts = Vec::new();
     for call in calls(journal) {
-        let number = make(&mut book, &call).map_or_else(|refusal| refusal.number, |_| 0);
-        if let Call::Post(sheet) = call {
-            posts.push((sheet, number));
-        }
+        let number = make(&mut book, &call).map_or_else(|refusal| refusal.number, |()| 0);
+        posts.extend(call.posted().map(|sheet| (sheet.to_vec(), number)));
     }
     posts
 }

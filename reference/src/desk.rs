@@ -1,16 +1,18 @@
-//! Records read as calls, in the desk's stream and in journals alike, and the desk's lines.
+//! The desk: its records, read as calls, and its lines. It knows posts, turns and look-ups for
+//! ever; what else a journal has is unknown to it.
 
-use std::io::{self, ErrorKind, Read, Write};
+use std::io::{self, Read, Write};
 
 use crate::book::{Book, LARGEST_AGE_LIMIT};
 use crate::curve::Which;
+use crate::records::{Next, RecordReader};
 use crate::refusal::Refusal;
 
 pub const POST: u8 = 0x50;
 pub const TURN: u8 = 0x4D;
 pub const LOOK_UP: u8 = 0x4C;
 
-/// One call read from the stream.
+/// One call of the desk's.
 #[derive(Clone, Debug, PartialEq, Eq)]
 pub enum Call {
     Post(Vec<u8>),
@@ -18,67 +20,24 @@ pub enum Call {
     LookUp(u8),
 }
 
-/// What the stream holds next.
-#[derive(Clone, Debug, PartialEq, Eq)]
-pub enum Next {
-    Call(Call),
-    /// The stream stopped before a kind byte.
-    End,
-    /// An unknown kind or a cut body; the offset of its kind byte.
-    Broken(u64),
-}
-
-/// Reads calls one after another.
-pub struct CallReader<R> {
-    input: R,
-    offset: u64,
-}
-
-impl<R: Read> CallReader<R> {
-    /// A reader at offset 0 of `input`.
-    pub fn new(input: R) -> Self {
-        CallReader { input, offset: 0 }
-    }
-
-    /// The next call, the end, or where the stream is broken.
-    pub fn next_call(&mut self) -> io::Result<Next> {
-        let start = self.offset;
-        let Some(kind) = self.take(1)? else {
-            return Ok(Next::End);
-        };
-        let call = match kind[0] {
-            POST => self.post()?,
-            TURN => self.two_bytes()?.map(Call::Turn),
-            LOOK_UP => self.take(1)?.map(|b| Call::LookUp(b[0])),
-            _ => None,
-        };
-        Ok(call.map_or(Next::Broken(start), Next::Call))
+impl Call {
+    /// The call whose record has this kind, from the bytes that follow it; none where the kind is
+    /// unknown to the desk or the body is cut.
+    pub fn read<R: Read>(reader: &mut RecordReader<R>, kind: u8) -> io::Result<Option<Call>> {
+        match kind {
+            POST => Call::read_post(reader),
+            TURN => Ok(reader.two_bytes()?.map(Call::Turn)),
+            LOOK_UP => Ok(reader.take(1)?.map(|bytes| Call::LookUp(bytes[0]))),
+            _ => Ok(None),
+        }
     }
 
     /// A sheet of the length that stands before it; whether it is right is for the book to say.
-    fn post(&mut self) -> io::Result<Option<Call>> {
-        let Some(length) = self.two_bytes()? else {
+    fn read_post<R: Read>(reader: &mut RecordReader<R>) -> io::Result<Option<Call>> {
+        let Some(length) = reader.two_bytes()? else {
             return Ok(None);
         };
-        Ok(self.take(usize::from(length))?.map(Call::Post))
-    }
-
-    fn two_bytes(&mut self) -> io::Result<Option<u16>> {
-        let bytes = self.take(2)?;
-        Ok(bytes.map(|bytes| u16::from_be_bytes([bytes[0], bytes[1]])))
-    }
-
-    /// The next `length` bytes, or none if the input stops before.
-    fn take(&mut self, length: usize) -> io::Result<Option<Vec<u8>>> {
-        let mut bytes = vec![0; length];
-        match self.input.read_exact(&mut bytes) {
-            Ok(()) => {
-                self.offset += length as u64;
-                Ok(Some(bytes))
-            }
-            Err(error) if error.kind() == ErrorKind::UnexpectedEof => Ok(None),
-            Err(error) => Err(error),
-        }
+        Ok(reader.take(usize::from(length))?.map(Call::Post))
     }
 }
 
@@ -94,7 +53,7 @@ pub fn make(book: &mut Book, call: &Call) -> Result<String, Refusal> {
 }
 
 /// Makes the call on the book; the line that answers it, refused or not.
-pub fn answer(book: &mut Book, call: &Call) -> String {
+fn answer(book: &mut Book, call: &Call) -> String {
     make(book, call).unwrap_or_else(|refusal| refusal.to_string())
 }
 
@@ -112,9 +71,9 @@ fn look_up_line(book: &Book, year: u8) -> Result<String, Refusal> {
 /// largest age limit, so it never turns a curve away for its age.
 pub fn run_desk(input: impl Read, mut output: impl Write) -> io::Result<()> {
     let mut book = Book::new(LARGEST_AGE_LIMIT);
-    let mut calls = CallReader::new(input);
+    let mut records = RecordReader::new(input);
     loop {
-        match calls.next_call()? {
+        match records.next_call(Call::read)? {
             Next::Call(call) => writeln!(output, "{}", answer(&mut book, &call))?,
             Next::End => return Ok(()),
             Next::Broken(offset) => return writeln!(output, "X {offset}"),

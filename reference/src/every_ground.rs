@@ -1,7 +1,7 @@
 //! A journal that meets every ground a record can meet, on a book with `AGE_LIMIT`. Its
 //! answers are written by hand, after the specification's grounds and figures, and not worked.
 
-use crate::journal::{look_up, post, turn};
+use crate::journal::{look_up, post, turn, withdrawal};
 use crate::sheet::{Sheet, MATURITIES};
 use crate::streams::{sheet_bytes, zero_sheet};
 
@@ -14,15 +14,17 @@ pub type Answered = (Vec<u8>, u8, u8);
 /// The records in order.
 pub fn records() -> Vec<Answered> {
     [
+        taken_back_at_once(),
         desk_records(),
         dropped_records(),
         adjusted_records(),
         aging_records(),
+        withdrawal_records(),
     ]
     .concat()
 }
 
-/// The records that meet every ground a desk's record can meet: all but 16. No curve in them
+/// The records that meet every ground a desk's record can meet: all but 16 and 18. No curve in them
 /// gets older than two months, so `AGE_LIMIT` does not show.
 pub fn desk_records() -> Vec<Answered> {
     [base_records(), rate_records()].concat()
@@ -279,6 +281,52 @@ fn aging_records() -> Vec<Answered> {
         (look_up(151), 13, 0),
         (posted(zero_sheet(10)), 0, 0),
         (look_up(150), 0, 0),
+    ]
+}
+
+/// What leaves a fresh book as it is: a post is withdrawn, and nothing is left to withdraw.
+fn taken_back_at_once() -> Vec<Answered> {
+    vec![
+        (withdrawal(), 18, 0),
+        (post(&sheet_bytes(&zero_sheet(0))), 0, 0),
+        (look_up(150), 0, 0),
+        (withdrawal(), 0, 0),
+        (look_up(150), 14, 0),
+        (withdrawal(), 18, 0),
+    ]
+}
+
+/// What follows `aging_records`, which leave month 10 told. Their last four accepted posts are of
+/// months 2, 6, 6 and 10, the second of month 6 a steep one, and only three can be withdrawn.
+fn withdrawal_records() -> Vec<Answered> {
+    let posted = |sheet: Sheet| post(&sheet_bytes(&sheet));
+    vec![
+        (withdrawal(), 0, 0),
+        (look_up(150), 16, 0),
+        (look_up(151), 13, 0),
+        // What stands is of month 6, so that a month before the withdrawn one is accepted, and the
+        // book is three deep again.
+        (posted(zero_sheet(5)), 6, 0),
+        (posted(steep_of_month(9)), 0, 0),
+        (look_up(150), 0, 0),
+        (look_up(10), 17, 0),
+        (withdrawal(), 0, 0),
+        (withdrawal(), 0, 0),
+        (look_up(10), 16, 0),
+        (withdrawal(), 0, 0),
+        (look_up(10), 16, 0),
+        // The sheet of month 2 stands, and the way back from it is forgotten.
+        (withdrawal(), 18, 0),
+        (posted(zero_sheet(1)), 6, 0),
+        (withdrawal(), 18, 0),
+        (posted(zero_sheet(2)), 0, 0),
+        (withdrawal(), 0, 0),
+        (withdrawal(), 18, 0),
+        // The told month remains.
+        (turn(9), 12, 0),
+        (posted(zero_sheet(11)), 5, 0),
+        (posted(zero_sheet(10)), 0, 0),
+        (look_up(10), 0, 0),
     ]
 }
 

@@ -1,11 +1,44 @@
-//! Journals: the calls of a list as bytes, made on a fresh book of some age limit.
+//! Journals: the calls of a list as bytes, made on a fresh book of some age limit. They have the
+//! desk's records and one more, the withdrawal.
+
+use std::io::{self, Read};
 
 use crate::book::Book;
-use crate::desk::{make, Call, CallReader, Next, LOOK_UP, POST, TURN};
+use crate::desk::{self, LOOK_UP, POST, TURN};
+use crate::records::{Next, RecordReader};
 use crate::refusal::Refusal;
+
+/// The kind of a withdrawal, whose record has no body.
+pub const WITHDRAWAL: u8 = 0x57;
 
 /// What `answer_after` gives where there is no whole record to be answered.
 pub const NO_RECORD: u64 = 255;
+
+/// One call of a journal: one that the desk knows too, or a withdrawal.
+#[derive(Clone, Debug, PartialEq, Eq)]
+pub enum Call {
+    OfDesk(desk::Call),
+    Withdrawal,
+}
+
+impl Call {
+    /// The call whose record has this kind, from the bytes that follow it; none where the kind is
+    /// unknown or the body is cut.
+    pub fn read<R: Read>(reader: &mut RecordReader<R>, kind: u8) -> io::Result<Option<Call>> {
+        match kind {
+            WITHDRAWAL => Ok(Some(Call::Withdrawal)),
+            _ => Ok(desk::Call::read(reader, kind)?.map(Call::OfDesk)),
+        }
+    }
+
+    /// The sheet that it posts, if it is a post.
+    pub fn posted(&self) -> Option<&[u8]> {
+        match self {
+            Call::OfDesk(desk::Call::Post(sheet)) => Some(sheet),
+            _ => None,
+        }
+    }
+}
 
 /// The record of a post. A sheet has at most 65,535 bytes here, as its length has two.
 pub fn post(sheet: &[u8]) -> Vec<u8> {
@@ -23,14 +56,27 @@ pub fn look_up(year: u8) -> Vec<u8> {
     vec![LOOK_UP, year]
 }
 
+/// The record of a withdrawal.
+pub fn withdrawal() -> Vec<u8> {
+    vec![WITHDRAWAL]
+}
+
 /// The calls of a journal, read until an unknown kind or a cut body.
 pub fn calls(journal: &[u8]) -> impl Iterator<Item = Call> + '_ {
-    let mut reader = CallReader::new(journal);
-    std::iter::from_fn(move || match reader.next_call() {
+    let mut records = RecordReader::new(journal);
+    std::iter::from_fn(move || match records.next_call(Call::read) {
         Ok(Next::Call(call)) => Some(call),
         _ => None,
     })
     .fuse()
+}
+
+/// Makes the call on the book, or says why it is refused.
+pub fn make(book: &mut Book, call: &Call) -> Result<(), Refusal> {
+    match call {
+        Call::OfDesk(call) => desk::make(book, call).map(|_| ()),
+        Call::Withdrawal => book.withdraw(),
+    }
 }
 
 /// What the journal's calls leave of a fresh book with `age_limit`.
@@ -49,7 +95,7 @@ pub fn book_after(age_limit: u64, journal: &[u8]) -> Book {
 pub fn answer_on(book: &Book, call: &[u8]) -> u64 {
     match calls(call).next() {
         None => NO_RECORD,
-        Some(call) => make(&mut book.clone(), &call).map_or_else(Refusal::code, |_| 0),
+        Some(call) => make(&mut book.clone(), &call).map_or_else(Refusal::code, |()| 0),
     }
 }
 

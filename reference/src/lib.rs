@@ -2,6 +2,7 @@
 //! from par rates, extrapolation, adjustment, zero rates, the book itself, and the true curve of
 //! order n against which the enclosures and the rates are checked.
 
+pub mod accepted;
 pub mod adjusted;
 pub mod adjustment;
 pub mod arguments;
@@ -22,9 +23,11 @@ pub mod journal;
 pub mod page;
 pub mod questions;
 pub mod rates;
+pub mod records;
 pub mod refusal;
 pub mod series;
 pub mod sheet;
 pub mod streams;
 pub mod true_curve;
 pub mod weights;
+pub mod withdrawn;

@@ -5,8 +5,9 @@ use crate::adjusted::{adjustment, typed_adjusted_sheet};
 use crate::book::{Book, LARGEST_AGE_LIMIT};
 use crate::curve::Which;
 use crate::dropped::typed_dropped_sheet;
-use crate::journal::{look_up, post, turn};
+use crate::journal::{look_up, post, turn, withdrawal};
 use crate::streams::{sheet, sheet_bytes, steep_sheet, typed_sheet, Random};
+use crate::withdrawn::{taken_back, withdrawals};
 
 /// The last month that can be told.
 const LAST_MONTH: u16 = 2_399;
@@ -18,25 +19,30 @@ const MONTHS: u64 = 2;
 /// Small age limits are below this one: most ages that journals reach are.
 const SMALL_LIMITS: u64 = 6;
 
-/// A journal of up to 11 records: whole, damaged, cut or empty, with sheets of any length. One
-/// in 8 ends with one more record, a steep sheet with or without an adjustment, on which look-ups
-/// meet ground 17.
+/// A journal of up to 11 records or rows of withdrawals: whole, damaged, cut or empty, with sheets
+/// of any length. One in 2 goes on with posts that are accepted and taken back, and one in 8 ends
+/// with one more record, a steep sheet with or without an adjustment, on which look-ups meet
+/// ground 17.
 pub fn journal(random: &mut Random) -> Vec<u8> {
     let mut journal = Vec::new();
     let mut told = 0;
     for _ in 0..random.below(12) {
-        match random.below(8) {
+        match random.below(9) {
             0..=2 => {
                 told = later(random, told);
                 journal.extend(turn(told));
             }
             3 => journal.extend(look_up(random.below(256) as u8)),
+            4 => journal.extend(withdrawals(random)),
             _ => {
                 // Some curves are a month or two old when they are posted.
                 let age = [0, 0, 0, 0, 1, 2][random.below(6) as usize];
                 journal.extend(posted(random, told.saturating_sub(age)));
             }
         }
+    }
+    if random.one_in(2) {
+        journal.extend(taken_back(random, &mut told));
     }
     if random.one_in(8) {
         let mut steep = steep_sheet(random, told);
@@ -91,7 +97,7 @@ pub fn call(random: &mut Random) -> Vec<u8> {
 
 /// A record of any kind, known or not.
 fn record(random: &mut Random) -> Vec<u8> {
-    match random.below(14) {
+    match random.below(16) {
         0 => turn(random.below(65_536) as u16),
         1 => turn(random.below(MONTHS) as u16),
         2 => look_up(random.below(256) as u8),
@@ -102,6 +108,7 @@ fn record(random: &mut Random) -> Vec<u8> {
         7 => post(&any_bytes(random)),
         8 => post(&damaged_sheet(random)),
         9 => post(&harsh_sheet(random)),
+        10 | 11 => withdrawal(),
         _ => {
             let month = random.below(MONTHS) as u16;
             posted(random, month)

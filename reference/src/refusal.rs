@@ -33,7 +33,7 @@ impl Refusal {
 }
 
 /// The grounds in words, that of number n at index n - 1.
-const REASONS: [&str; 17] = [
+const REASONS: [&str; 18] = [
     "the sheet's length is none of 109, 112 and 115",
     "a record's kind or maturity is not the one due",
     "a number is outside its range",
@@ -51,6 +51,7 @@ const REASONS: [&str; 17] = [
     "the buffer has fewer than 1,505 bytes",
     "the curve's age is above the book's limit",
     "no high rate up to 100,000 exists",
+    "no post is left to withdraw",
 ];
 
 impl fmt::Display for Refusal {

@@ -8,9 +8,9 @@ use common::{flat, zero, Numbers};
 use reference::arguments;
 use reference::book::{Book, LARGEST_AGE_LIMIT, PAGE_LENGTH};
 use reference::curve::Which;
-use reference::desk::{make, run_desk};
+use reference::desk::run_desk;
 use reference::every_ground::{records, AGE_LIMIT};
-use reference::journal::{answer_after, answer_on, book_after, calls, look_up, post, turn};
+use reference::journal::{answer_after, answer_on, book_after, calls, look_up, make, post, turn};
 use reference::questions::{age_limits, curve_age, journal, limits_around};
 use reference::refusal::Refusal;
 use reference::streams::Random;
@@ -305,7 +305,7 @@ fn posts_and_turns_are_answered_alike_under_every_limit() {
         let mut books = LIMITS.map(Book::new);
         for call in calls(&journal) {
             let answers = books.each_mut().map(|book| make(book, &call));
-            let free = answers[LIMITS.len() - 1].clone();
+            let free = answers[LIMITS.len() - 1];
             for answer in answers {
                 assert!(answer == free || answer == Err(Refusal::plain(16)));
             }

@@ -9,7 +9,7 @@ use reference::book::{Book, LARGEST_AGE_LIMIT, PAGE_LENGTH};
 use reference::curve::{Curve, Which};
 use reference::desk::{make, run_desk, Call};
 use reference::enclosure::{Enclosure, U};
-use reference::journal::{answer_on, book_after, calls, look_up, post, turn};
+use reference::journal::{self, answer_on, book_after, calls, look_up, post, turn};
 use reference::questions::journal;
 use reference::rates::{high_rate, low_rate, ZeroRates, HIGHEST_RATE, LOWEST_RATE};
 use reference::refusal::Refusal;
@@ -653,6 +653,7 @@ fn the_hand_written_journal_is_read_whole() {
     assert!(of_17.clone().count() >= 8);
     assert!(of_17.clone().all(|(_, _, place)| *place == 0));
     for (record, _, _) in of_17 {
-        assert!(matches!(calls(record).next(), Some(Call::LookUp(_))));
+        let call = calls(record).next();
+        assert!(matches!(call, Some(journal::Call::OfDesk(Call::LookUp(_)))));
     }
 }

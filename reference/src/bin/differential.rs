@@ -13,7 +13,7 @@ use std::process::{Command, ExitCode, Stdio};
 use reference::adjusted::adjusted_sheet;
 use reference::counts::PostCounts;
 use reference::curve::{Curve, Curves, Which, YEARS};
-use reference::desk::{run_desk, Call};
+use reference::desk::run_desk;
 use reference::dropped::dropped_sheet;
 use reference::journal::calls;
 use reference::rates::ZeroRates;
@@ -119,9 +119,9 @@ impl Compared {
     /// cut.
     fn count(&mut self, input: &[u8], lines: &str) {
         for (call, line) in calls(input).zip(lines.lines()) {
-            if let Call::Post(sheet) = call {
+            if let Some(sheet) = call.posted() {
                 self.posts += 1;
-                self.counts.count(&sheet, refused_on(line));
+                self.counts.count(sheet, refused_on(line));
             }
             self.without_rates += u64::from(line == "R 17 0");
         }

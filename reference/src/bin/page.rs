@@ -9,7 +9,8 @@ use std::process::ExitCode;
 use reference::arguments::{age_limit, usage_error};
 use reference::book::{Book, PAGE_LENGTH};
 use reference::curve::Which;
-use reference::desk::{answer, CallReader, Next};
+use reference::journal::{make, Call};
+use reference::records::{Next, RecordReader};
 
 fn main() -> io::Result<ExitCode> {
     let Some(age_limit) = age_limit(std::env::args_os().skip(1)) else {
@@ -21,11 +22,11 @@ fn main() -> io::Result<ExitCode> {
 }
 
 fn replay_and_page(mut book: Book, input: impl Read, mut output: impl Write) -> io::Result<()> {
-    let mut calls = CallReader::new(input);
+    let mut records = RecordReader::new(input);
     loop {
-        match calls.next_call()? {
-            // The page shows what the calls did; their lines are not wanted here.
-            Next::Call(call) => _ = answer(&mut book, &call),
+        match records.next_call(Call::read)? {
+            // Refused or not: the page shows what the calls did.
+            Next::Call(call) => _ = make(&mut book, &call),
             Next::End => return write_page(&book, &mut output),
             Next::Broken(offset) => return writeln!(output, "X {offset}"),
         }

@@ -8,7 +8,8 @@ use std::process::ExitCode;
 
 use reference::arguments::{age_limit, usage_error};
 use reference::book::Book;
-use reference::desk::{make, Call, CallReader, Next};
+use reference::journal::{make, Call};
+use reference::records::{Next, RecordReader};
 
 fn main() -> io::Result<ExitCode> {
     let Some(age_limit) = age_limit(std::env::args_os().skip(1)) else {
@@ -19,9 +20,9 @@ fn main() -> io::Result<ExitCode> {
 }
 
 fn explain(mut book: Book, input: impl Read) -> io::Result<()> {
-    let mut calls = CallReader::new(input);
+    let mut records = RecordReader::new(input);
     loop {
-        match calls.next_call()? {
+        match records.next_call(Call::read)? {
             Next::Call(call) => println!("{}", explanation(&mut book, &call)),
             Next::End => return Ok(()),
             Next::Broken(offset) => {
@@ -34,7 +35,7 @@ fn explain(mut book: Book, input: impl Read) -> io::Result<()> {
 
 fn explanation(book: &mut Book, call: &Call) -> String {
     match make(book, call) {
-        Ok(_) => "accepted".to_string(),
+        Ok(()) => "accepted".to_string(),
         Err(refusal) => format!(
             "turned down on {}, place {}: {}",
             refusal.number,
