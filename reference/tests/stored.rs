@@ -8,11 +8,12 @@ use reference::counts::PostCounts;
 use reference::desk::run_desk;
 
 /// The streams that `vectors` writes, with its arguments.
-const WRITTEN: [(&str, &[&str]); 4] = [
+const WRITTEN: [(&str, &[&str]); 5] = [
     ("phase_in", &[]),
     ("zero_rates", &["zero_rates"]),
     ("dropped", &["dropped"]),
     ("adjustment", &["adjustment"]),
+    ("withdrawal", &["withdrawal"]),
 ];
 
 fn stored(name: &str) -> Vec<u8> {

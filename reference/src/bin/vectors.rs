@@ -4,6 +4,7 @@
 //!     vectors zero_rates
 //!     vectors dropped
 //!     vectors adjustment
+//!     vectors withdrawal
 //!
 //! The first, stored as phase_in, reaches grounds 1 to 14, with many places, and accepted
 //! curves at many convergence factors, each looked up at its ends, around the smoothing year
@@ -12,7 +13,8 @@
 //! curves of every pattern of volumes of 0, and sheets with dropped quotes that are refused. The
 //! fourth has every tail of a sheet, accepted and refused, curves that no adjustment moves, since
 //! the desk's look-ups are of the plain curve, and sheets that only their adjusted curve turns
-//! down.
+//! down. The fifth has a journal's withdrawal, which the desk does not know, and records behind it
+//! that it must not serve.
 
 use std::io::Write;
 use std::process::ExitCode;
@@ -21,10 +23,12 @@ use reference::adjusted::typed_adjusted_sheet;
 use reference::curve::YEARS as LAST_YEAR;
 use reference::dropped::{dropped_sheet, typed_dropped_sheet};
 use reference::every_ground;
-use reference::journal::{look_up, post, turn};
+use reference::journal::{look_up, post, turn, withdrawal};
 use reference::rates::ZeroRates;
 use reference::sheet::Sheet;
-use reference::streams::{low_rates, records, sheet, sheet_bytes, steep_sheet, worked, Random};
+use reference::streams::{
+    low_rates, records, sheet, sheet_bytes, steep_sheet, worked, zero_sheet, Random,
+};
 
 const SEED: u64 = 2_026;
 const CURVES: usize = 60;
@@ -83,8 +87,9 @@ fn main() -> std::io::Result<ExitCode> {
         ["zero_rates"] => zero_rates(),
         ["dropped"] => dropped(),
         ["adjustment"] => adjustment(),
+        ["withdrawal"] => withdrawn(),
         _ => {
-            eprintln!("usage: vectors [zero_rates | dropped | adjustment]");
+            eprintln!("usage: vectors [zero_rates | dropped | adjustment | withdrawal]");
             return Ok(ExitCode::from(2));
         }
     };
@@ -191,6 +196,25 @@ fn adjustment() -> Vec<u8> {
     // A sheet of 115 bytes without its last one.
     stream.extend([&[0x50, 0, 115], &[0; 114][..]].concat());
     stream
+}
+
+/// Two posts, so that a desk that served the withdrawal would show another curve.
+fn withdrawn() -> Vec<u8> {
+    let posted = |sheet: &Sheet| post(&sheet_bytes(sheet));
+    [
+        turn(LAST_MONTH),
+        posted(&zero_sheet(0)),
+        look_up(20),
+        posted(&flat(3_000, 3_000)),
+        look_up(20),
+        withdrawal(),
+        look_up(20),
+        posted(&flat(2_000, 2_000)),
+        withdrawal(),
+        withdrawal(),
+        look_up(20),
+    ]
+    .concat()
 }
 
 /// One sheet followed by every kind, alone and behind the phase-in's record, by numbers around
