@@ -4,10 +4,11 @@
 use std::collections::BTreeMap;
 use std::fmt;
 
+use reference::accepted::Count;
 use reference::book::{Book, Found, PAGE_LENGTH};
-use reference::curve::Which;
+use reference::curve::{Which, YEARS};
 use reference::desk::LOOK_UP;
-use reference::journal::{answer_on, book_after};
+use reference::journal::{answer_on, book_after, calls, WITHDRAWAL};
 use reference::questions::curve_age;
 use reference::refusal::Refusal;
 use reference::streams::Random;
@@ -16,6 +17,9 @@ use crate::{answer_after, look_after, page_after};
 
 /// Bytes in the reply to a look-up.
 pub const LOOK_UP_LENGTH: usize = 28;
+
+/// The ground of a year that is not on the curve.
+const NO_YEAR: u64 = 13;
 
 /// The ground of a curve that is missing.
 const NO_CURVE: u64 = 14;
@@ -28,6 +32,9 @@ const TOO_OLD: u64 = 16;
 
 /// The ground of a year that has no high rate.
 const NO_HIGH_RATE: u64 = 17;
+
+/// The ground of a withdrawal where no post is left to withdraw.
+const NOTHING_TO_WITHDRAW: u64 = 18;
 
 /// What a lent buffer of this length holds: seeded bytes, among which those that were written
 /// or moved from elsewhere in the buffer are seen.
@@ -69,6 +76,7 @@ impl Question {
             Question::LookUp { .. } => Kind::LookUp(which),
             Question::Page { length, .. } if *length < PAGE_LENGTH => Kind::ShortPage(which),
             Question::Page { .. } => Kind::Page(which),
+            Question::Answer { .. } if self.withdraws() => Kind::Withdrawal,
             Question::Answer { .. } => Kind::Answer,
         }
     }
@@ -83,12 +91,17 @@ impl Question {
         }
     }
 
-    /// Whether it asks for the curve, and no post or turn.
+    /// Whether it asks for the curve, and no post, turn or withdrawal.
     fn shows_the_curve(&self) -> bool {
         match self {
             Question::Answer { call } => call.first() == Some(&LOOK_UP),
             _ => true,
         }
+    }
+
+    /// Whether it asks about a withdrawal, which is whole with its kind alone.
+    fn withdraws(&self) -> bool {
+        matches!(self, Question::Answer { call } if call.first() == Some(&WITHDRAWAL))
     }
 }
 
@@ -118,11 +131,12 @@ pub enum Kind {
     Page(Which),
     ShortPage(Which),
     Answer,
+    Withdrawal,
 }
 
 impl Kind {
     /// All kinds, in the order in which they are told.
-    pub const ALL: [Kind; 9] = [
+    pub const ALL: [Kind; 10] = [
         Kind::LookUp(Which::Plain),
         Kind::LookUp(Which::Adjusted),
         Kind::ShortLookUp(Which::Plain),
@@ -132,6 +146,7 @@ impl Kind {
         Kind::ShortPage(Which::Plain),
         Kind::ShortPage(Which::Adjusted),
         Kind::Answer,
+        Kind::Withdrawal,
     ];
 
     /// The answers that questions of this kind must meet for them to mean something. A page has
@@ -145,6 +160,7 @@ impl Kind {
             Kind::ShortPage(Which::Adjusted) => &[SHORT_BUFFER, TOO_OLD],
             Kind::Page(_) | Kind::ShortPage(_) => &[TOO_OLD],
             Kind::LookUp(_) | Kind::ShortLookUp(_) | Kind::Answer => &[TOO_OLD, NO_HIGH_RATE],
+            Kind::Withdrawal => &[0, NOTHING_TO_WITHDRAW],
         }
     }
 
@@ -153,7 +169,7 @@ impl Kind {
         match self {
             Kind::LookUp(which) | Kind::ShortLookUp(which) => which,
             Kind::Page(which) | Kind::ShortPage(which) => which,
-            Kind::Answer => Which::Plain,
+            Kind::Answer | Kind::Withdrawal => Which::Plain,
         }
     }
 }
@@ -165,7 +181,8 @@ impl fmt::Display for Kind {
             Kind::ShortLookUp(_) => "look-ups into short buffers",
             Kind::Page(_) => "pages",
             Kind::ShortPage(_) => "pages into short buffers",
-            Kind::Answer => return f.write_str("answers to records"),
+            Kind::Answer => return f.write_str("answers to other records"),
+            Kind::Withdrawal => return f.write_str("answers to withdrawals"),
         };
         match self.which() {
             Which::Plain => f.write_str(asked),
@@ -174,11 +191,13 @@ impl fmt::Display for Kind {
     }
 }
 
-/// A journal under an age limit, with the second implementation's book after it.
+/// A journal under an age limit, with the second implementation's book after it and the count of
+/// its calls, which knows no book.
 pub struct Case<'a> {
     age_limit: u64,
     journal: &'a [u8],
     book: Book,
+    count: Count,
     /// The age of the curve that the book holds, if it holds one.
     age: Option<u64>,
 }
@@ -186,12 +205,22 @@ pub struct Case<'a> {
 impl<'a> Case<'a> {
     /// The second implementation replays the journal on a fresh book with the limit.
     pub fn replayed(age_limit: u64, journal: &'a [u8]) -> Self {
+        Case::counted_as(age_limit, journal, Count::of(calls(journal)))
+    }
+
+    /// The same journal replayed once more, with another limit; no limit is in its count.
+    pub fn again(&self, age_limit: u64) -> Self {
+        Case::counted_as(age_limit, self.journal, self.count.clone())
+    }
+
+    fn counted_as(age_limit: u64, journal: &'a [u8], count: Count) -> Self {
         let book = book_after(age_limit, journal);
         Case {
             age_limit,
             journal,
             age: curve_age(&book),
             book,
+            count,
         }
     }
 
@@ -200,6 +229,7 @@ impl<'a> Case<'a> {
         Case {
             age_limit,
             book: self.book.with_age_limit(age_limit),
+            count: self.count.clone(),
             ..*self
         }
     }
@@ -209,22 +239,45 @@ impl<'a> Case<'a> {
         self.age
     }
 
-    /// The answer that both give, or how they differ in it or in the buffer they leave.
+    /// The answer that both give, or how they differ in it or in the buffer they leave; or that
+    /// they agree against the count.
     pub fn ask(&self, question: &Question) -> Result<u64, String> {
         let lent = lent(question.length());
         let (mut found, mut expected) = (lent.clone(), lent);
         let answer = self.library(question, &mut found);
         let expected_answer = self.second(question, &mut expected);
-        if answer == expected_answer && found == expected {
+        let difference = if answer != expected_answer || found != expected {
+            let other = found.iter().zip(&expected).position(|(a, b)| a != b);
+            format!("expected {expected_answer}, first other byte of the buffer {other:?}")
+        } else if !self.counted(question, answer) {
+            "the count of the calls says otherwise".to_string()
+        } else {
             return Ok(answer);
-        }
-        let other = found.iter().zip(&expected).position(|(a, b)| a != b);
+        };
         Err(format!(
-            "{question} under age limit {}: found {answer}, expected {expected_answer}, first \
-             other byte of the buffer {other:?}, after the journal {}",
+            "{question} under age limit {}: found {answer}, {difference}, after the journal {}",
             self.age_limit,
             hex(self.journal)
         ))
+    }
+
+    /// Whether the answer is one that the count allows. No curve is found exactly where the last
+    /// accepted post not withdrawn, or its adjustment, is missing, and a withdrawal is refused
+    /// exactly at depth 0.
+    fn counted(&self, question: &Question, answer: u64) -> bool {
+        match question {
+            Question::LookUp { year, .. } if !(1..=YEARS as u64).contains(year) => {
+                answer == NO_YEAR
+            }
+            Question::LookUp { .. } | Question::Page { .. } => {
+                (answer != NO_CURVE) == self.count.finds(question.which())
+            }
+            Question::Answer { .. } if question.withdraws() => match self.count.depth() {
+                0 => answer == NOTHING_TO_WITHDRAW,
+                _ => answer == 0,
+            },
+            Question::Answer { .. } => true,
+        }
     }
 
     fn library(&self, question: &Question, out: &mut [u8]) -> u64 {
@@ -312,9 +365,9 @@ impl Met {
     }
 
     /// Says what was not met and must be for the questions to mean something: by each of these
-    /// kinds ground 16 and, unless it is of pages, 17; of those about adjusted curves also one that
-    /// is there and one that is missing beside a plain one; and curves at the limit and a month
-    /// past it.
+    /// kinds but withdrawals ground 16 and, unless it is of pages, 17; of those about adjusted
+    /// curves also one that is there and one that is missing beside a plain one; withdrawals that
+    /// are accepted, and 18; and curves at the limit and a month past it.
     pub fn check(&self, kinds: &[Kind]) -> Result<(), String> {
         let adjusted = kinds.iter().any(|kind| kind.which() == Which::Adjusted);
         if adjusted && self.missing_beside_plain == 0 {

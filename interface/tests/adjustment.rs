@@ -1,8 +1,11 @@
 //! Sheets with a volatility adjustment: the proved library's curves, named by numbers of every
 //! sort, against figures and grounds written by hand, and against the second implementation's.
 
+mod asked;
+
+use asked::{looked, page, paged, posted, reply, with, PAGE, REPLY};
 use interface::compare::{Case, Kind, Met, Question};
-use interface::{answer_after, look_after, page_after, ADJUSTED, PLAIN};
+use interface::{answer_after, ADJUSTED, PLAIN};
 use reference::adjusted::{adjusted_sheet, typed_adjusted_sheet, Alone, TAIL_GROUNDS};
 use reference::book::LARGEST_AGE_LIMIT;
 use reference::counts::PostCounts;
@@ -11,12 +14,6 @@ use reference::journal::{look_up, post, turn};
 use reference::questions::{age_limits, kind};
 use reference::sheet::Sheet;
 use reference::streams::{low_rates, sheet_bytes, steep_sheet, zero_sheet, Random};
-
-/// The length of a page.
-const PAGE: usize = 1_505;
-
-/// The length of a look-up's reply.
-const REPLY: usize = 28;
 
 /// Numbers that name the plain curve: bit 0 alone counts.
 const PLAIN_KINDS: [u64; 6] = [PLAIN, 2, 1 << 8, 1 << 32, 1 << 63, 0xFFFF_FFFF_FFFF_FFFE];
@@ -49,57 +46,15 @@ fn steep() -> Sheet {
     sheet
 }
 
-fn with(adjustment: i16, sheet: Sheet) -> Sheet {
-    Sheet {
-        adjustment: Some(adjustment),
-        ..sheet
-    }
-}
-
-fn posted(sheet: &Sheet) -> Vec<u8> {
-    post(&sheet_bytes(sheet))
-}
-
 /// The answer to a post on a fresh book: number and place.
 fn answered(record: &[u8]) -> (u64, u64) {
     let answer = answer_after(LARGEST_AGE_LIMIT, &[], record);
     (answer % 256, answer / 256)
 }
 
-/// The ground of a look-up into `length` bytes, all of which a refusal leaves.
-fn looked(age_limit: u64, journal: &[u8], kind: u64, year: u64, length: usize) -> u64 {
-    let mut out = vec![9; length];
-    let ground = look_after(age_limit, journal, kind, year, &mut out);
-    assert!(ground == 0 || out == vec![9; length]);
-    ground
-}
-
-/// The ground of a page into `length` bytes, all of which a refusal leaves.
-fn paged(age_limit: u64, journal: &[u8], kind: u64, length: usize) -> u64 {
-    let mut out = vec![9; length];
-    let ground = page_after(age_limit, journal, kind, &mut out);
-    assert!(ground == 0 || out == vec![9; length]);
-    ground
-}
-
-fn reply(journal: &[u8], kind: u64, year: u64) -> [u8; REPLY] {
-    let mut out = [9; REPLY];
-    let ground = look_after(LARGEST_AGE_LIMIT, journal, kind, year, &mut out);
-    assert_eq!(ground, 0, "year {year}");
-    out
-}
-
-/// Low and high of a year.
+/// Low and high of a year of a sheet that is accepted.
 fn band(sheet: &Sheet, kind: u64, year: u64) -> (u64, u64) {
-    let reply = reply(&posted(sheet), kind, year);
-    let number = |at: usize| u64::from_be_bytes(reply[at..at + 8].try_into().unwrap());
-    (number(0), number(8))
-}
-
-fn page(journal: &[u8], kind: u64) -> [u8; PAGE] {
-    let mut out = [9; PAGE];
-    assert_eq!(page_after(LARGEST_AGE_LIMIT, journal, kind, &mut out), 0);
-    out
+    asked::band(&reply(&posted(sheet), kind, year))
 }
 
 // By hand

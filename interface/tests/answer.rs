@@ -21,12 +21,13 @@ const RECORDS: u64 = 3;
 /// The kind that a call starts with, 0 for all that are unknown.
 fn kind(call: &[u8]) -> u8 {
     match call.first() {
-        Some(&kind) if [0x50, 0x4D, 0x4C].contains(&kind) => kind,
+        Some(&kind) if [0x50, 0x4D, 0x4C, 0x57].contains(&kind) => kind,
         _ => 0,
     }
 }
 
-/// Each kind with each number that it can be answered with, 255 among them; in order.
+/// Each kind with each number that it can be answered with, 255 among them unless its record is
+/// the kind alone; in order.
 fn every_answer() -> Vec<(u8, u64)> {
     let of = |kind, numbers: &[u64]| numbers.iter().map(|&n| (kind, n)).collect::<Vec<_>>();
     [
@@ -34,6 +35,7 @@ fn every_answer() -> Vec<(u8, u64)> {
         of(0x4C, &[0, 13, 14, 16, 17, 255]),
         of(0x4D, &[0, 11, 12, 255]),
         of(0x50, &[0, 1, 2, 3, 4, 5, 6, 7, 8, 9, 10, 255]),
+        of(0x57, &[0, 18]),
     ]
     .concat()
 }
@@ -61,7 +63,7 @@ fn answers_agree() {
     // Every answer was met, so that the run means something, and no other was. (Far fewer
     // journals than 400 may miss one.)
     assert_eq!(seen.into_keys().collect::<Vec<_>>(), every_answer());
-    assert_eq!(met.check(&[Kind::Answer]), Ok(()));
+    assert_eq!(met.check(&[Kind::Answer, Kind::Withdrawal]), Ok(()));
 }
 
 #[test]
@@ -100,7 +102,7 @@ fn every_ground_agrees_under_every_limit() {
         journal.extend(call);
     }
     println!("{met}");
-    assert_eq!(met.check(&[Kind::Answer]), Ok(()));
+    assert_eq!(met.check(&[Kind::Answer, Kind::Withdrawal]), Ok(()));
 }
 
 #[test]

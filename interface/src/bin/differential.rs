@@ -1,10 +1,11 @@
 //! Asks the proved library and the second implementation the same questions after seeded
 //! journals, each under several age limits and about both curves, which are named by numbers of
 //! every sort, and compares answers and buffers. It prints how often each kind of question met
-//! each ground and what became of posts with dropped quotes or adjustments, and fails where one
-//! never met 16, where one that asks for rates never met 17, where no adjusted curve was shown or
-//! missing, or where no sheet was accepted with some gap that runs on over a dropped maturity, or
-//! with some tail.
+//! each ground, what became of posts with dropped quotes or adjustments and what the journals'
+//! withdrawals met, and fails where one never met 16, where one that asks for rates never met 17,
+//! where no adjusted curve was shown or missing, where no sheet was accepted with some gap that
+//! runs on over a dropped maturity, or with some tail, or where some sort of withdrawal was not
+//! met.
 //!
 //!     differential [SEED [POSTS]]
 
@@ -14,10 +15,10 @@ use std::process::ExitCode;
 use interface::compare::{Case, Kind, Met, Question};
 use reference::counts::PostCounts;
 use reference::curve::Which;
-use reference::desk::Call;
 use reference::journal::calls;
 use reference::questions::{age_limits, call, journal, kind, limits_around};
 use reference::streams::Random;
+use reference::withdrawn::Withdrawals;
 
 /// Buffers for look-ups, whose reply has 28 bytes.
 const LOOK_UP_BUFFERS: [usize; 6] = [0, 12, 27, 28, 29, 60];
@@ -36,10 +37,10 @@ fn main() -> ExitCode {
         eprintln!("usage: differential [SEED [POSTS]]");
         return ExitCode::from(2);
     };
-    let (mut met, mut counts) = (Met::default(), PostCounts::default());
-    let compared = compare(seed, posts, &mut met, &mut counts);
-    println!("{met}\n{counts}");
-    let checked = met.check(&Kind::ALL).and_then(|()| counts.check());
+    let mut seen = Seen::default();
+    let compared = compare(seed, posts, &mut seen);
+    println!("{}\n{}\n{}", seen.met, seen.counts, seen.withdrawals);
+    let checked = seen.check();
     match compared.and_then(|done| checked.map(|()| done)) {
         Ok((journals, posts)) => {
             println!("libraries agree after {journals} journals with {posts} posts");
@@ -49,6 +50,28 @@ fn main() -> ExitCode {
             println!("{text}");
             ExitCode::FAILURE
         }
+    }
+}
+
+/// What the questions and the journals met.
+#[derive(Default)]
+struct Seen {
+    met: Met,
+    counts: PostCounts,
+    withdrawals: Withdrawals,
+}
+
+impl Seen {
+    fn count_journal(&mut self, journal: &[u8]) {
+        self.counts.count_journal(journal);
+        self.withdrawals.count_journal(journal);
+    }
+
+    /// Says what was not met even once.
+    fn check(&self) -> Result<(), String> {
+        self.met.check(&Kind::ALL)?;
+        self.counts.check()?;
+        self.withdrawals.check()
     }
 }
 
@@ -67,19 +90,15 @@ fn arguments() -> Option<(u64, u64)> {
 }
 
 /// The journals that it took to bring at least `posts` posts, and how many they brought.
-fn compare(
-    seed: u64,
-    posts: u64,
-    met: &mut Met,
-    counts: &mut PostCounts,
-) -> Result<(u64, u64), String> {
+fn compare(seed: u64, posts: u64, seen: &mut Seen) -> Result<(u64, u64), String> {
     let (mut done, mut number) = (0, 0);
     while done < posts {
         // A seed of its own makes each journal repeatable without those before it.
         let mut random = Random::new(seed.wrapping_mul(1_000_003).wrapping_add(number));
         let journal = journal(&mut random);
-        ask(&mut random, &journal, met).map_err(|text| format!("journal {number}: {text}"))?;
-        counts.count_journal(&journal);
+        let asked = ask(&mut random, &journal, &mut seen.met);
+        asked.map_err(|text| format!("journal {number}: {text}"))?;
+        seen.count_journal(&journal);
         let before = done;
         done += posts_in(&journal);
         number += 1;
@@ -91,7 +110,7 @@ fn compare(
 }
 
 fn posts_in(journal: &[u8]) -> u64 {
-    let posts = calls(journal).filter(|call| matches!(call, Call::Post(_)));
+    let posts = calls(journal).filter(|call| call.posted().is_some());
     posts.count() as u64
 }
 

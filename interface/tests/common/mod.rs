@@ -13,10 +13,8 @@ pub fn journals() -> u64 {
 /// The journal under age limits of every sort, and under those around its curve's age. The
 /// second implementation replays it under each.
 pub fn cases<'a>(random: &mut Random, journal: &'a [u8]) -> Vec<Case<'a>> {
-    let age = Case::replayed(0, journal).age();
-    let limits = age_limits(random).into_iter();
-    limits
-        .chain(age.into_iter().flat_map(limits_around))
-        .map(|limit| Case::replayed(limit, journal))
-        .collect()
+    let first = Case::replayed(0, journal);
+    let around = first.age().into_iter().flat_map(limits_around);
+    let limits = age_limits(random).into_iter().chain(around);
+    limits.map(|limit| first.again(limit)).collect()
 }
