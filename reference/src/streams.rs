@@ -7,7 +7,7 @@ use crate::convergence::{TEN_PERCENT, X_OUTSIDE_PHASE_IN};
 use crate::curve::{Curve, Curves, YEARS};
 use crate::dropped::typed_dropped_sheet;
 use crate::enclosure::{Enclosure, RATE_UNIT, U};
-use crate::journal::{look_up, post, turn};
+use crate::journal::{look_up, post, turn, withdrawal};
 use crate::sheet::{Sheet, MATURITIES, VOLUME_MATURITIES};
 
 pub(crate) const LARGEST_LIMIT: u32 = 100_000;
@@ -517,22 +517,39 @@ impl Measured {
 /// `count` accepted posts of one month, for measuring, and a look-up, which shows that the last
 /// was worked. They are of the same sheets in every case, each of them accepted in all forms.
 pub fn accepted_posts(seed: u64, count: usize, measured: Measured) -> Vec<u8> {
+    measured_stream(accepted_records(seed, count, measured))
+}
+
+/// The journal of `accepted_posts` with a withdrawal in place of every third post, for measuring
+/// withdrawals beside it. Each of them is accepted, as it has two posts before it.
+pub fn posts_and_withdrawals(seed: u64, count: usize, measured: Measured) -> Vec<u8> {
+    let mut records = accepted_records(seed, count, measured);
+    for third in records.iter_mut().skip(2).step_by(3) {
+        *third = withdrawal();
+    }
+    measured_stream(records)
+}
+
+/// The told month of the posts, the records, and a look-up.
+fn measured_stream(records: Vec<Vec<u8>>) -> Vec<u8> {
+    [turn(1), records.concat(), look_up(YEARS as u8)].concat()
+}
+
+/// `count` accepted posts of month 1.
+fn accepted_records(seed: u64, count: usize, measured: Measured) -> Vec<Vec<u8>> {
     let mut random = Random::new(seed);
-    let mut stream = turn(1);
-    let mut done = 0;
-    while done < count {
+    let mut records = Vec::new();
+    while records.len() < count {
         let mut sheet = sheet(&mut random, 1);
         sheet.limit = LARGEST_LIMIT;
         sheet.adjustment = Some(adjustment(&mut random));
         let suits = sheet.convergence() != TEN_PERCENT && sheet.volumes.iter().all(|&v| v > 0);
         let accepted = |form: &Measured| worked(&form.form(&sheet)).is_some();
         if suits && Measured::ALL.iter().all(accepted) {
-            stream.extend(post(&sheet_bytes(&measured.form(&sheet))));
-            done += 1;
+            records.push(post(&sheet_bytes(&measured.form(&sheet))));
         }
     }
-    stream.extend(look_up(YEARS as u8));
-    stream
+    records
 }
 
 /// An accepted post and `count` look-ups of one year of its curve, for measuring.

@@ -16,7 +16,7 @@ use reference::journal::{
 use reference::questions::{self, journal};
 use reference::refusal::Refusal;
 use reference::sheet::Sheet;
-use reference::streams::{stream, Random};
+use reference::streams::{posts_and_withdrawals, stream, Measured, Random};
 use reference::withdrawn::{taken_back, Meeting, Withdrawals};
 
 /// The month told before `posted` posts.
@@ -934,4 +934,17 @@ fn seeded_records_are_withdrawals_at_times_and_streams_have_none() {
             "{seed}"
         );
     }
+}
+
+#[test]
+fn every_measured_withdrawal_is_accepted() {
+    let journal = posts_and_withdrawals(7, 30, Measured::Adjusted);
+    let mut book = Book::new(LARGEST_AGE_LIMIT);
+    for call in calls(&journal) {
+        assert_eq!(make(&mut book, &call), Ok(()), "{call:?}");
+    }
+    let withdrawals = calls(&journal).filter(|call| *call == Call::Withdrawal);
+    let posts = calls(&journal).filter(|call| call.posted().is_some());
+    assert_eq!((posts.count(), withdrawals.count()), (20, 10));
+    assert!(book.holds(Which::Adjusted));
 }

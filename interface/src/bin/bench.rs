@@ -1,7 +1,8 @@
 //! Times posts and a page through the C interface against the second implementation, on
 //! the same journal, in turn, in one run on one machine: bench [POSTS]. Then the same posts
 //! with an X, whose weights are worked anew in each, with two dropped quotes, and with an
-//! adjustment, whose second curve is paged. Then pages of one post's curve.
+//! adjustment, whose second curve is paged. Then the same posts with a withdrawal in place of every
+//! third, which tells what a withdrawal costs beside a post. Then pages of one post's curve.
 
 use std::time::{Duration, Instant};
 
@@ -9,7 +10,7 @@ use interface::{page_after, ADJUSTED, PLAIN};
 use reference::book::{LARGEST_AGE_LIMIT, PAGE_LENGTH};
 use reference::curve::Which;
 use reference::journal::book_after;
-use reference::streams::{accepted_posts, Measured};
+use reference::streams::{accepted_posts, posts_and_withdrawals, Measured};
 
 /// The fastest of these runs counts, as the least disturbed one.
 const RUNS: usize = 7;
@@ -31,31 +32,91 @@ fn main() {
     ] {
         time_posts(sheets, posts, named, &accepted_posts(SEED, posts, measured));
     }
+    for (sheets, measured, named) in [
+        ("without X", Measured::Plain, PLAIN),
+        ("with an adjustment", Measured::Adjusted, ADJUSTED),
+    ] {
+        time_withdrawals(sheets, posts.next_multiple_of(3), measured, named);
+    }
     time_pages(&accepted_posts(SEED, 1, Measured::Plain));
 }
 
-fn time_posts(sheets: &str, posts: usize, named: u64, journal: &[u8]) {
-    let (mut proved, mut plain) = (Duration::MAX, Duration::MAX);
-    for _ in 0..RUNS {
-        let (mut page, mut expected) = (vec![0; PAGE_LENGTH], vec![0; PAGE_LENGTH]);
-        let start = Instant::now();
-        assert_eq!(page_after(LARGEST_AGE_LIMIT, journal, named, &mut page), 0);
-        proved = proved.min(start.elapsed());
-        let start = Instant::now();
-        let book = book_after(LARGEST_AGE_LIMIT, journal);
-        assert!(book.page(Which::named_by(named), &mut expected).is_ok());
-        plain = plain.min(start.elapsed());
-        assert_eq!(page, expected);
+/// What a journal and a page took: in the proved library, and in the second implementation.
+#[derive(Clone, Copy)]
+struct Times {
+    proved: Duration,
+    plain: Duration,
+}
+
+impl Times {
+    const LONGEST: Times = Times {
+        proved: Duration::MAX,
+        plain: Duration::MAX,
+    };
+
+    /// The shorter times of two runs.
+    fn min(self, other: Times) -> Times {
+        Times {
+            proved: self.proved.min(other.proved),
+            plain: self.plain.min(other.plain),
+        }
     }
+}
+
+/// Times one run, and asserts that both page the same.
+fn run(named: u64, journal: &[u8]) -> Times {
+    let (mut page, mut expected) = (vec![0; PAGE_LENGTH], vec![0; PAGE_LENGTH]);
+    let start = Instant::now();
+    assert_eq!(page_after(LARGEST_AGE_LIMIT, journal, named, &mut page), 0);
+    let proved = start.elapsed();
+    let start = Instant::now();
+    let book = book_after(LARGEST_AGE_LIMIT, journal);
+    assert!(book.page(Which::named_by(named), &mut expected).is_ok());
+    let plain = start.elapsed();
+    assert_eq!(page, expected);
+    Times { proved, plain }
+}
+
+fn time_posts(sheets: &str, posts: usize, named: u64, journal: &[u8]) {
+    let runs = (0..RUNS).map(|_| run(named, journal));
+    let Times { proved, plain } = runs.fold(Times::LONGEST, Times::min);
     let rate = |time: Duration| posts as f64 / time.as_secs_f64();
     println!(
-        "{posts} posts {sheets} and a page: proved {:.3} s ({:.0} posts a second), plain Rust {:.3} s ({:.0} posts a second), ratio {:.2}",
+        "{posts} posts {sheets} and a page: proved {:.3} s ({:.0} posts a second), \
+         plain Rust {:.3} s ({:.0} posts a second), ratio {:.2}",
         proved.as_secs_f64(),
         rate(proved),
         plain.as_secs_f64(),
         rate(plain),
         proved.as_secs_f64() / plain.as_secs_f64()
     );
+}
+
+/// The journals are run by turns, so that a slow while is shared. Three posts take 3 p; two and a
+/// withdrawal take 2 p + w.
+fn time_withdrawals(sheets: &str, calls: usize, measured: Measured, named: u64) {
+    let three = accepted_posts(SEED, calls, measured);
+    let two = posts_and_withdrawals(SEED, calls, measured);
+    let (mut posts, mut both) = (Times::LONGEST, Times::LONGEST);
+    for _ in 0..RUNS {
+        posts = posts.min(run(named, &three));
+        both = both.min(run(named, &two));
+    }
+    for (name, posts, both) in [
+        ("proved", posts.proved, both.proved),
+        ("plain Rust", posts.plain, both.plain),
+    ] {
+        let micros = |time: Duration| 1e6 * time.as_secs_f64() / (calls as f64 / 3.0);
+        let post = micros(posts) / 3.0;
+        let withdrawal = micros(both) - 2.0 * post;
+        println!(
+            "{name}, {sheets}: three posts {:.1} µs, two and a withdrawal {:.1} µs; so a post takes \
+             {post:.1} µs and a withdrawal {withdrawal:.1} µs, {:.2} of a post",
+            micros(posts),
+            micros(both),
+            withdrawal / post
+        );
+    }
 }
 
 /// A call replays its journal before it pages, so the journal's time is taken off: that of the
@@ -77,7 +138,8 @@ fn time_pages(journal: &[u8]) {
     }
     let (whole, refused, plain) = (usual(whole), usual(refused), usual(plain));
     println!(
-        "a page after one post: proved {whole:.2} µs with the post, {refused:.2} µs refused for its buffer, so {:.2} µs ({:.0} pages a second); plain Rust {plain:.2} µs ({:.0} pages a second)",
+        "a page after one post: proved {whole:.2} µs with the post, {refused:.2} µs refused for its \
+         buffer, so {:.2} µs ({:.0} pages a second); plain Rust {plain:.2} µs ({:.0} pages a second)",
         whole - refused,
         1e6 / (whole - refused),
         1e6 / plain
