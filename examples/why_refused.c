@@ -5,10 +5,11 @@
  * A program that keeps a journal would ask the same before it adds a record. It compiles as C++ too. */
 #include <stdio.h>
 #include "age_limit.h"
+#include "records.h"
 #include "short_journal.h"
 #include "tuyqorem.h"
 
-/* The grounds of docs/SPECIFICATION.md, section 9; a record can meet 1 to 14, 16 and 17. */
+/* The grounds of docs/SPECIFICATION.md, section 9; a record can meet 1 to 14 and 16 to 18. */
 static const char *const reasons[] = {
     "",
     "the sheet's length is none of 109, 112 and 115",
@@ -28,13 +29,8 @@ static const char *const reasons[] = {
     "the buffer has fewer than 1,505 bytes",
     "the curve's age is above the book's limit",
     "no high rate up to 100,000 exists",
+    "no post is left to withdraw",
 };
-
-/* Only a whole record is measured, so its length bytes are there. */
-static size_t record_length(const uint8_t *record) {
-    if (record[0] == 0x50) return 3 + record[1] * (size_t)256 + record[2];
-    return record[0] == 0x4D ? 3 : 2;
-}
 
 static void print_answer(uint64_t answer) {
     unsigned number = (unsigned)(answer % 256), place = (unsigned)(answer / 256);
@@ -58,7 +54,7 @@ int main(int argc, char **argv) {
         uint64_t answer = tuyqorem_answer_after(age_limit, journal, at, journal + at, held - at);
         if (answer == 255) break;
         print_answer(answer);
-        at += record_length(journal + at);
+        at += record_length(journal + at, held - at);
     }
     if (at < held) printf("no whole record at byte %lu\n", (unsigned long)at);
     return 0;

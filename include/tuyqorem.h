@@ -4,29 +4,35 @@
  *   0x50, a length in 2 bytes, then a sheet of that many bytes: a post
  *   0x4D, a month in 2 bytes: a turn of the told month
  *   0x4C, a year in 1 byte: a look-up
+ *   0x57, without a body: a withdrawal
  * Numbers have the high byte first. Reading stops at an unknown kind or a cut body, so every journal means some list of
  * calls, which is run from a fresh book. Nothing is kept between two of these calls.
  *
  * The book is made with an age limit in months, age_limit: any number, of which one above 2,399 makes a book with 2,399. A
- * curve that is older than the limit is turned away with 16 and not shown. The book still holds it: posts and turns are
- * answered as with any other limit.
+ * curve that is older than the limit is turned away with 16 and not shown. The book still holds it: posts, turns and
+ * withdrawals are answered as with any other limit.
  *
  * A sheet has 109, 112 or 115 bytes: it may end with a record for the phase-in (0x06, 3 bytes), one for the volatility
  * adjustment (0x07, 3 bytes), or both in this order. With an adjustment, be it 0, a post works two curves, the plain one and
  * the adjusted one, and is turned down as a whole where either fails. Look-ups and pages name their curve by kind: the adjusted
  * one where bit 0 is set, else the plain one; all other bits are ignored. A look-up in a journal is of the plain curve.
  *
- * This is the interface from the volatility adjustment (U6) on: tuyqorem_look_after and tuyqorem_page_after have the parameter
- * kind, and had not; a look-up's reply has 28 bytes, and had 12 before U3. So a program is compiled with the header of the
- * library that it is linked with. Later ones give another bit of kind a meaning: a program leaves those without one at 0. From
- * U5 on a sheet's volume of 0 at 25, 30, 40 or 50 years drops the quote of that maturity; no function has changed for it.
+ * A withdrawal takes back the latest accepted post that is not withdrawn: both curves and their month are again what stood
+ * before it, be it none, and the told month remains. Up to three posts can be taken back, one after another; a post where three
+ * can be forgets only the oldest way back. Where no post is left to withdraw the answer is 18.
+ *
+ * This is the interface from the withdrawal (U7) on: a journal's 0x57, an unknown kind before, is a withdrawal; no function has
+ * changed for it. From U6 on tuyqorem_look_after and tuyqorem_page_after have the parameter kind, and had not; a look-up's reply
+ * has 28 bytes, and had 12 before U3. So a program is compiled with the header of the library that it is linked with. Later ones
+ * give another bit of kind a meaning: a program leaves those without one at 0. From U5 on a sheet's volume of 0 at 25, 30, 40 or
+ * 50 years drops the quote of that maturity; no function has changed for it.
  *
  * It is proved of tuyqorem_look_after and tuyqorem_page_after, for every age limit, every journal and every kind: no curve is
- * found exactly when no post of the journal was accepted or, for the adjusted one, when the last accepted sheet had no
- * adjustment; a curve older than the limit answers 16; otherwise month and age are those of the last accepted sheet and turn,
- * and each band is within that sheet's limit and holds the true factor of every order, on the curve that is named. A look-up's
- * rates are the largest and the smallest of their rule (docs/SPECIFICATION.md, 7.1), and the true curve's own rate of every
- * order lies between them; a look-up answers 17 exactly when there is no high rate.
+ * found exactly when no post of the journal is accepted and not withdrawn or, for the adjusted one, when the last such sheet has
+ * no adjustment; a curve older than the limit answers 16; otherwise month and age are those of the last accepted post not
+ * withdrawn and the last accepted turn, and each band is within that sheet's limit and holds the true factor of every order, on
+ * the curve that is named. A look-up's rates are the largest and the smallest of their rule (docs/SPECIFICATION.md, 7.1), and
+ * the true curve's own rate of every order lies between them; a look-up answers 17 exactly when there is no high rate.
  *
  * It is proved of tuyqorem_answer_after, for every age limit, every journal and every call: the answer is exactly the one
  * that the definitions give to that call on the book of the journal.
@@ -61,7 +67,7 @@ uint64_t tuyqorem_page_after(uint64_t age_limit, const uint8_t *calls, size_t ca
 
 /* The answer that one more call gets after the journal's calls: for programs that keep a journal and must say why a sheet
  * was turned down. The call is the first record of call, written as in a journal; the bytes past it are ignored. Returns
- * 0 where it is accepted. Otherwise the answer is number + 256 * place: the number, 1 to 14, 16 or 17, of the first ground that
+ * 0 where it is accepted. Otherwise the answer is number + 256 * place: the number, 1 to 14 or 16 to 18, of the first ground that
  * applies (docs/SPECIFICATION.md, section 9), and the record, year or maturity that it names, 0 where it names none; or
  * 255, where call starts with no whole record: it is empty, its kind is unknown or its body is cut. */
 uint64_t tuyqorem_answer_after(uint64_t age_limit, const uint8_t *calls, size_t calls_len, const uint8_t *call,
