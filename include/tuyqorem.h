@@ -35,7 +35,8 @@
  * the true curve's own rate of every order lies between them; a look-up answers 17 exactly when there is no high rate.
  *
  * It is proved of tuyqorem_answer_after, for every age limit, every journal and every call: the answer is exactly the one
- * that the definitions give to that call on the book of the journal.
+ * that the definitions give to that call on the book of the journal; a withdrawal is answered 18 exactly when the journal's
+ * depth is 0, to which an accepted post adds 1, up to 3, and from which an accepted withdrawal takes 1.
  *
  * A buffer may not overlap the journal.
  */
