@@ -228,7 +228,7 @@ fn worked(sheet: &[u8]) -> Standing
     }
 }
 
-// No sheet has no bytes, and these do not work.
+// Where nothing was kept there are no bytes, and these work to no curve.
 fn stands_again(kept: Kept) -> Standing
     ensures { λ r. ⌜ asStanding r ≡ standingOf (asKept kept) ⌝ }
 {
