@@ -18,7 +18,7 @@ use Rattle.ledger.specs.Book.{Book, notBefore, postOutcome, post, turnOu
 use Rattle.ledger.specs.Calls.{Call, postOf, turnTo, withdrawal, asks, after, runFrom}
 use Rattle.ledger.specs.Count.{Count, latest, lastSheet, monthOf, hasAdjustment, carries, isDone}
 use Rattle.ledger.specs.Count.{works, inOrder, acceptsSheet, acceptsMonth, acceptsWithdrawal, counted, countFrom, typed}
-use Rattle.ledger.specs.Demands.{postsAfter, postsLeft, toldAfter}
+use Rattle.ledger.specs.Demands.{seen}
 use Rattle.ledger.proofs.Typed.{typed-is}
 use Rattle.ledger.proofs.Ways.{historyOf, posted-history}
 
@@ -204,68 +204,56 @@ accepts-post limit c g s = go (readSheet s) refl
         (same-tests (curvesOf n) _ _ _ _ (ap (λ (k : ℕ). leb k (c .told)) m)
         (ap (λ (k : ℕ). notBefore (standingOf (lastSheet c)) k) m ∙ in-order (c .told) (c .posts) (g .sheets) (monthOf s)))
 
--- the book, and what the caller saw
-record Moved (limit : ℕ) (c : Count) (s : List ℕ) : Type 0 where
-  book : post (bookOf limit c) s .book ≡ bookOf limit (counted c (postOf s))
-  sheets : postsAfter (post (bookOf limit c) s .answer) s (c .posts) ≡ counted c (postOf s) .posts
+-- a call moves the book, and the count of a caller who sees its answer, as it moves the count
+pub record Moves (limit : ℕ) (c : Count) (d : Call) : Type 0 where
+  pub book : after (bookOf limit c) d ≡ bookOf limit (counted c d)
+  pub caller : seen c (bookOf limit c) d ≡ counted c d
 
-post-moves : (limit : ℕ) (c : Count) → SoundCount c → (s : List ℕ) → Moved limit c s
+post-moves : (limit : ℕ) (c : Count) → SoundCount c → (s : List ℕ) → Moves limit c (postOf s)
 unfolding post
 post-moves limit c g s = go (postOutcome (bookOf limit c) s) refl
   where
-    go : (o : Outcome Curves) → postOutcome (bookOf limit c) s ≡ o → Moved limit c s
-    go (refused x) e = record { book = rw (accepts-post limit c g s, e); sheets = rw (accepts-post limit c g s, e) }
+    go : (o : Outcome Curves) → postOutcome (bookOf limit c) s ≡ o → Moves limit c (postOf s)
+    go (refused x) e = record { book = rw (accepts-post limit c g s, after, e); caller = rw (accepts-post limit c g s, seen, e) }
     go (done k) e =
         record {
-          book = rw (accepts-post limit c g s, e, outcome-answer (bookOf limit c) s e, posted-history s (c .posts) (c .depth));
-          sheets = rw (accepts-post limit c g s, e);
+          book = rw (accepts-post limit c g s, after, e, outcome-answer (bookOf limit c) s e, posted-history s (c .posts) (c .depth));
+          caller = rw (accepts-post limit c g s, seen, e) (ap (λ (n : ℕ). record { told = c .told; posts = s ∷ c .posts; depth = n }) (omega arith));
         }
-
-pub posts-step :
-    (limit : ℕ) (c : Count) → SoundCount c → (s : List ℕ) → postsAfter (post (bookOf limit c) s .answer) s (c .posts) ≡ counted c (postOf s) .posts
-posts-step limit c g s = post-moves limit c g s .sheets
 
 -- ---- turn
 
-turn-step : (limit : ℕ) (c : Count) (m : ℕ) → turn (bookOf limit c) m .book ≡ bookOf limit (counted c (turnTo m))
+turn-moves : (limit : ℕ) (c : Count) (m : ℕ) → Moves limit c (turnTo m)
 unfolding turn turnOutcome acceptsMonth
-turn-step limit c m = split (leb m 2_399) (λ p. split (leb (c .told) m) (λ q. rw (p, q)) (λ q. rw (p, q))) (λ p. rw p)
-
-pub told-step : (limit : ℕ) (c : Count) (m : ℕ) → toldAfter (turn (bookOf limit c) m .answer) (c .told) ≡ counted c (turnTo m) .told
-unfolding turn turnOutcome acceptsMonth
-told-step limit c m = split (leb m 2_399) (λ p. split (leb (c .told) m) (λ q. rw (p, q)) (λ q. rw (p, q))) (λ p. rw p)
+turn-moves limit c m =
+    split (leb m 2_399)
+    (λ p. split (leb (c .told) m)
+    (λ q. record { book = rw (after, p, q); caller = rw (seen, p, q) })
+    (λ q. record { book = rw (after, p, q); caller = rw (seen, p, q) }))
+    (λ p. record { book = rw (after, p); caller = rw (seen, p) })
 
 -- ---- withdrawal: there is a way back exactly where the depth is above 0, and it leads to the sheet below
 
-record Withdrawn (limit : ℕ) (c : Count) : Type 0 where
-  book : withdraw (bookOf limit c) .book ≡ bookOf limit (counted c withdrawal)
-  sheets : postsLeft (withdraw (bookOf limit c) .answer) (c .posts) ≡ counted c withdrawal .posts
-
-withdrawn-from : (limit told : ℕ) (ss : List (List ℕ)) (depth : ℕ) → depth ≤ length ss → Withdrawn limit (record { told = told; posts = ss; depth = depth })
+withdrawn-from :
+    (limit told : ℕ) (ss : List (List ℕ)) (depth : ℕ) → depth ≤ length ss → Moves limit (record { told = told; posts = ss; depth = depth }) withdrawal
 unfolding withdraw acceptsWithdrawal
-withdrawn-from limit told ss zero h = record { book = refl; sheets = refl }
+withdrawn-from limit told ss zero h = record { book = refl; caller = refl }
 withdrawn-from limit told [] (suc depth) h = absurd (omega (arith, h))
 withdrawn-from limit told (s ∷ ss) (suc depth) h =
     let deep : ltb 0 (suc depth) ≡ true = lt-ltb 0 (suc depth) (omega arith) in
     let less : suc depth - 1 ≡ depth = omega arith in
-    let counts : counted (record { told = told; posts = s ∷ ss; depth = suc depth }) withdrawal ≡ record { told = told; posts = ss; depth = depth } =
-    rw (deep, less) in
-    record { book = sym (ap (bookOf limit) counts); sheets = sym (ap (λ (c : Count). c .posts) counts) }
-
-withdraw-moves : (limit : ℕ) (c : Count) → SoundCount c → Withdrawn limit c
-withdraw-moves limit c g = withdrawn-from limit (c .told) (c .posts) (c .depth) (g .enough)
-
-pub posts-left-step :
-    (limit : ℕ) (c : Count) → SoundCount c → postsLeft (withdraw (bookOf limit c) .answer) (c .posts) ≡ counted c withdrawal .posts
-posts-left-step limit c g = withdraw-moves limit c g .sheets
+    record { book = rw (deep, less); caller = rw deep }
 
 -- ---- every call, and every list of them
 
+pub moves : (limit : ℕ) (c : Count) → SoundCount c → (d : Call) → Moves limit c d
+moves limit c g (postOf s) = post-moves limit c g s
+moves limit c g (turnTo m) = turn-moves limit c m
+moves limit c g withdrawal = withdrawn-from limit (c .told) (c .posts) (c .depth) (g .enough)
+moves limit c g (asks q) = record { book = refl; caller = refl }
+
 pub step : (limit : ℕ) (c : Count) → SoundCount c → (d : Call) → after (bookOf limit c) d ≡ bookOf limit (counted c d)
-step limit c g (postOf s) = post-moves limit c g s .book
-step limit c g (turnTo m) = turn-step limit c m
-step limit c g withdrawal = withdraw-moves limit c g .book
-step limit c g (asks q) = refl
+step limit c g d = moves limit c g d .book
 
 pub steps : (limit : ℕ) (c : Count) → SoundCount c → (ds : List Call) → runFrom (bookOf limit c) ds ≡ bookOf limit (countFrom c ds)
 steps limit c g [] = refl

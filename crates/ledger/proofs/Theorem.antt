@@ -20,14 +20,13 @@ use Rattle.zero_rates.proofs.Theorem.{zero-rates, no-rate, rates-ordered, rates
 use Rattle.ledger.specs.Answers.{finding}
 use Rattle.ledger.specs.History.{History}
 use Rattle.ledger.specs.Book.{Book, Paged, standingOf, named, age, openCurve, bandAt, lookUp, page}
-use Rattle.ledger.specs.Calls.{lookAt, pageInto, Call, postOf, turnTo, withdrawal, asks, run}
-use Rattle.ledger.specs.Count.{Count, latest, monthOf, carries, typed, acceptsSheet, acceptsMonth, acceptsWithdrawal}
-use Rattle.ledger.specs.Count.{counted, countFrom, nothing, count}
+use Rattle.ledger.specs.Calls.{lookAt, pageInto, Call, run}
+use Rattle.ledger.specs.Count.{Count, latest, monthOf, carries, typed, counted, countFrom, nothing, count}
 use Rattle.ledger.specs.Tells.{missing, Carries, bandAmong, bandIn, bandOf, Band, Finds, LookTells, PageWritten, PageTells}
-use Rattle.ledger.specs.Demands.{Demand3, lastPosts, lastTold, CountIsLast, CurveFits, FitsPage}
+use Rattle.ledger.specs.Demands.{Demand3, seenFrom, CountIsLast, CurveFits, FitsPage}
 use Rattle.ledger.proofs.Ways.{historyOf}
 use Rattle.ledger.proofs.Count.{bookOf, Sound, AllSound, SoundCount, sound, all-sound, works-done, answer-typed}
-use Rattle.ledger.proofs.Count.{curve-month, curve-there, curve-missing, step, steps, posts-step, posts-left-step, told-step}
+use Rattle.ledger.proofs.Count.{curve-month, curve-there, curve-missing, moves, steps}
 use Rattle.ledger.proofs.Asked.{refusal-kept, other-ground, open-within, closed-old, closed-none, look-outside, look-open, look-closed}
 use Rattle.ledger.proofs.Asked.{page-short, page-closed, page-refused, page-of-book}
 
@@ -300,43 +299,9 @@ run-fits limit cs =
 
 -- ---- the count by the answers
 
-posts-kept : (c : Count) (m : ℕ) → counted c (turnTo m) .posts ≡ c .posts
-posts-kept c m = split (acceptsMonth c m) (λ q. rw q) (λ q. rw q)
-
-told-kept : (c : Count) (s : List ℕ) → counted c (postOf s) .told ≡ c .told
-told-kept c s = split (acceptsSheet c s) (λ q. rw q) (λ q. rw q)
-
-told-remains : (c : Count) → counted c withdrawal .told ≡ c .told
-told-remains c = split (acceptsWithdrawal c) (λ q. rw q) (λ q. rw q)
-
-module _ (limit : ℕ) where
-  last-posts-are : (c : Count) → SoundCount c → (cs : List Call) → countFrom c cs .posts ≡ lastPosts (bookOf limit c) (c .posts) cs
-  last-posts-are c g [] = refl
-  last-posts-are c g (postOf s ∷ cs) =
-      rw (step limit c g (postOf s), posts-step limit c g s) (last-posts-are (counted c (postOf s)) (sound c g (postOf s)) cs)
-  last-posts-are c g (turnTo m ∷ cs) =
-      let d = counted c (turnTo m) in
-      rw (step limit c g (turnTo m))
-      (last-posts-are d (sound c g (turnTo m)) cs ∙ ap (λ (ss : List (List ℕ)). lastPosts (bookOf limit d) ss cs) (posts-kept c m))
-  last-posts-are c g (withdrawal ∷ cs) =
-      rw (step limit c g withdrawal, posts-left-step limit c g) (last-posts-are (counted c withdrawal) (sound c g withdrawal) cs)
-  last-posts-are c g (asks q ∷ cs) = last-posts-are c g cs
-
-  last-told-is : (c : Count) → SoundCount c → (cs : List Call) → countFrom c cs .told ≡ lastTold (bookOf limit c) (c .told) cs
-  last-told-is c g [] = refl
-  last-told-is c g (postOf s ∷ cs) =
-      let d = counted c (postOf s) in
-      rw (step limit c g (postOf s)) (last-told-is d (sound c g (postOf s)) cs ∙ ap (λ (t : ℕ). lastTold (bookOf limit d) t cs) (told-kept c s))
-  last-told-is c g (turnTo m ∷ cs) =
-      rw (step limit c g (turnTo m), told-step limit c m) (last-told-is (counted c (turnTo m)) (sound c g (turnTo m)) cs)
-  last-told-is c g (withdrawal ∷ cs) =
-      let d = counted c withdrawal in
-      rw (step limit c g withdrawal) (last-told-is d (sound c g withdrawal) cs ∙ ap (λ (t : ℕ). lastTold (bookOf limit d) t cs) (told-remains c))
-  last-told-is c g (asks q ∷ cs) = last-told-is c g cs
+seen-is : (limit : ℕ) (c : Count) → SoundCount c → (cs : List Call) → countFrom c cs ≡ seenFrom c (bookOf limit c) cs
+seen-is limit c g [] = refl
+seen-is limit c g (d ∷ cs) = let m = moves limit c g d in rw (m .caller, m .book) (seen-is limit (counted c d) (sound c g d) cs)
 
 pub count-is-last : (limit : ℕ) (cs : List Call) → CountIsLast limit cs
-count-is-last limit cs =
-    record {
-      last-posts = last-posts-are (min limit 2_399) nothing sound-nothing cs;
-      last-month = last-told-is (min limit 2_399) nothing sound-nothing cs;
-    }
+count-is-last limit cs = seen-is (min limit 2_399) nothing sound-nothing cs

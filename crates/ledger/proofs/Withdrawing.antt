@@ -9,9 +9,9 @@ use lib.ListN.{length, drop, replicate}
 use Rattle.method.specs.Grounds.{noPostLeft, Outcome, refused, done}
 use Rattle.method.specs.Curve.{Curves}
 use Rattle.ledger.specs.Book.{Book, postOutcome, post, withCurves, booked, standingOf, withdraw}
-use Rattle.ledger.specs.Calls.{Call, postOf, withdrawal, runFrom, run}
+use Rattle.ledger.specs.Calls.{Call, postOf, withdrawal}
 use Rattle.ledger.specs.Count.{Count, latest, isDone, acceptsSheet, acceptsWithdrawal, counted, countFrom, count}
-use Rattle.ledger.specs.Demands.{Withdraws, AllAccepted, BackAt, ThreeDeep}
+use Rattle.ledger.specs.Demands.{Withdraws, AllAccepted, ThreeDeep}
 use Rattle.ledger.proofs.Asked.{refusal-kept}
 use Rattle.ledger.proofs.Count.{bookOf, SoundCount, accepts-post, sound, step, steps}
 use Rattle.ledger.proofs.Theorem.{run-is, run-sound}

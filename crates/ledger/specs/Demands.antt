@@ -3,7 +3,7 @@ use mathlib.Core.Path.{_≡_}
 use mathlib.Core.Bool.{Bool, true, false, not, _||_}
 use mathlib.Core.List.{List, [], _∷_, _++_, map}
 use mathlib.Core.Logic.{_⊎_, _↔_}
-use Prim.Native.Nat.{ℕ, _+_, _-_, _≤_, _<_}
+use Prim.Native.Nat.{ℕ, _+_, _-_, _≤_, _<_, min}
 use lib.Dec.{ltb, eqb}
 use lib.IntN.{pos, _*ℤ_}
 use lib.ListN.{length, getD, take, drop, replicate}
@@ -19,8 +19,8 @@ use Rattle.zero_rates.specs.Rates.{ratesOf}
 use Rattle.zero_rates.specs.Meaning.{grown}
 use Rattle.ledger.specs.Answers.{Finding, finding}
 use Rattle.ledger.specs.Book.{Standing, Book, fresh, post, turn, withdraw, named, lookUp, page}
-use Rattle.ledger.specs.Calls.{Question, Call, postOf, turnTo, withdrawal, asks, runFrom, run, answered, answerOf}
-use Rattle.ledger.specs.Count.{count}
+use Rattle.ledger.specs.Calls.{Question, Call, postOf, turnTo, withdrawal, asks, after, runFrom, run, answered, answerOf}
+use Rattle.ledger.specs.Count.{Count, nothing, count}
 use Rattle.ledger.specs.Tells.{PageWritten, Tells}
 
 -- ═══ Demand 3: over EVERY list of calls from a fresh book of ANY age limit, any question is answered as the count of the list tells
@@ -76,38 +76,33 @@ abbrev pub ThreeDeep : ℕ → List Call → Type 0
 ThreeDeep limit cs = (ss : List (List ℕ)) → length ss ≤ 3 → AllAccepted (run limit cs) ss →
     BackAt (run limit cs) (runFrom (run limit cs) (map postOf ss ++ replicate (length ss) withdrawal))
 
--- ═══ The count by the answers that a caller saw: the accepted posts' sheets, each accepted withdrawal taking the latest off; the last
--- accepted turn's month or 0
+-- ═══ The count by the answers that a caller saw: an accepted post's sheet goes on top and adds 1 to the depth, up to 3; an accepted
+-- withdrawal takes the latest sheet and 1 off; an accepted turn's month is the told one
 
-abbrev pub postsAfter : Outcome ℕ → List ℕ → List (List ℕ) → List (List ℕ)
-postsAfter (done m) s ss = s ∷ ss
-postsAfter (refused g) s ss = ss
+abbrev pub postSeen : Count → List ℕ → Outcome ℕ → Count
+postSeen c s (refused g) = c
+postSeen c s (done m) = record { told = c .told; posts = s ∷ c .posts; depth = min 3 (1 + c .depth) }
 
-abbrev pub postsLeft : Outcome (Unit {0}) → List (List ℕ) → List (List ℕ)
-postsLeft (done x) ss = drop 1 ss
-postsLeft (refused g) ss = ss
+abbrev pub turnSeen : Count → Outcome ℕ → Count
+turnSeen c (refused g) = c
+turnSeen c (done m) = record { told = m; posts = c .posts; depth = c .depth }
 
-abbrev pub toldAfter : Outcome ℕ → ℕ → ℕ
-toldAfter (done m) t = m
-toldAfter (refused g) t = t
+abbrev pub withdrawalSeen : Count → Outcome (Unit {0}) → Count
+withdrawalSeen c (refused g) = c
+withdrawalSeen c (done x) = record { told = c .told; posts = drop 1 (c .posts); depth = c .depth - 1 }
 
-abbrev pub lastPosts : Book → List (List ℕ) → List Call → List (List ℕ)
-lastPosts b ss [] = ss
-lastPosts b ss (postOf s ∷ cs) = lastPosts (post b s .book) (postsAfter (post b s .answer) s ss) cs
-lastPosts b ss (turnTo m ∷ cs) = lastPosts (turn b m .book) ss cs
-lastPosts b ss (withdrawal ∷ cs) = lastPosts (withdraw b .book) (postsLeft (withdraw b .answer) ss) cs
-lastPosts b ss (asks q ∷ cs) = lastPosts b ss cs
+abbrev pub seen : Count → Book → Call → Count
+seen c b (postOf s) = postSeen c s (post b s .answer)
+seen c b (turnTo m) = turnSeen c (turn b m .answer)
+seen c b withdrawal = withdrawalSeen c (withdraw b .answer)
+seen c b (asks q) = c
 
-abbrev pub lastTold : Book → ℕ → List Call → ℕ
-lastTold b t [] = t
-lastTold b t (postOf s ∷ cs) = lastTold (post b s .book) t cs
-lastTold b t (turnTo m ∷ cs) = lastTold (turn b m .book) (toldAfter (turn b m .answer) t) cs
-lastTold b t (withdrawal ∷ cs) = lastTold (withdraw b .book) t cs
-lastTold b t (asks q ∷ cs) = lastTold b t cs
+abbrev pub seenFrom : Count → Book → List Call → Count
+seenFrom c b [] = c
+seenFrom c b (d ∷ ds) = seenFrom (seen c b d) (after b d) ds
 
-pub record CountIsLast (limit : ℕ) (cs : List Call) : Type 0 where
-  pub last-posts : count cs .posts ≡ lastPosts (fresh limit) [] cs
-  pub last-month : count cs .told ≡ lastTold (fresh limit) 0 cs
+abbrev pub CountIsLast : ℕ → List Call → Type 0
+CountIsLast limit cs = count cs ≡ seenFrom nothing (fresh limit) cs
 
 -- ═══ Demand 1: the result or the first ground that applies; a refusal changes nothing
 
