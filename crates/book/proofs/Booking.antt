@@ -34,7 +34,7 @@ use Rattle.book.specs.declared.Book as code
 use Rattle.book.specs.declared.Booked as reply
 use Rattle.book.specs.declared.Which.{Which}
 use Rattle.book.specs.declared.Which.the-variants.{Plain, Adjusted}
-use Rattle.book.specs.Views.{asWhich, standingIf, asStanding, asBook, asBooked}
+use Rattle.book.specs.Views.{asWhich, standingIf, asBook, asBooked}
 use Rattle.book.specs.Steps.{Fits, posted, afterReading, Opens}
 
 -- ---- a call that is turned down

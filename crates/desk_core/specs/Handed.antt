@@ -4,7 +4,6 @@ use mathlib.Core.List.{List, _++_}
 use mathlib.Core.Path.{_≡_}
 use Prim.Native.Nat.{ℕ, _+_, _-_, _%_, _^_, _≤_, _<_}
 use lib.ListN.{length, take, drop}
-use Rattle.ledger.specs.Book.{Book}
 use Rattle.book.specs.Views.{asBook}
 use Rattle.journal.specs.declared.Reply.{Reply}
 use Rattle.journal.specs.declared.Reply.the-variants as reply

@@ -12,7 +12,7 @@ use Rattle.method.specs.Units.{plain}
 use Rattle.ledger.specs.Answers as answer
 use Rattle.ledger.specs.Book as ledger
 use Rattle.ledger.specs.Book.{post, turn, withdraw, lookUp}
-use Rattle.ledger.specs.Calls.{Call, postOf, turnTo, withdrawal, lookAt, asks}
+use Rattle.ledger.specs.Calls.{Call, postOf, turnTo, withdrawal}
 use Rattle.grounds.specs.declared.Verdict.{Verdict}
 use Rattle.grounds.specs.Verdicts.{asOutcome, resultOr}
 use Rattle.book.specs.declared.Book.{Book}
