@@ -16,6 +16,10 @@ use reference::streams::{accepted_posts, posts_and_withdrawals, Measured};
 const RUNS: usize = 7;
 const SEED: u64 = 7;
 
+/// Calls in a journal with withdrawals, and how often it is run.
+const CALLS: usize = 300;
+const TURNS: usize = 400;
+
 /// Pages timed, each by itself.
 const PAGES: usize = 50_000;
 
@@ -36,7 +40,7 @@ fn main() {
         ("without X", Measured::Plain, PLAIN),
         ("with an adjustment", Measured::Adjusted, ADJUSTED),
     ] {
-        time_withdrawals(sheets, posts.next_multiple_of(3), measured, named);
+        time_withdrawals(sheets, measured, named);
     }
     time_pages(&accepted_posts(SEED, 1, Measured::Plain));
 }
@@ -92,28 +96,28 @@ fn time_posts(sheets: &str, posts: usize, named: u64, journal: &[u8]) {
     );
 }
 
-/// The journals are run by turns, so that a slow while is shared. Three posts take 3 p; two and a
-/// withdrawal take 2 p + w.
-fn time_withdrawals(sheets: &str, calls: usize, measured: Measured, named: u64) {
-    let three = accepted_posts(SEED, calls, measured);
-    let two = posts_and_withdrawals(SEED, calls, measured);
-    let (mut posts, mut both) = (Times::LONGEST, Times::LONGEST);
-    for _ in 0..RUNS {
-        posts = posts.min(run(named, &three));
-        both = both.min(run(named, &two));
+/// Three posts take 3 p; two and a withdrawal take 2 p + w. The journals are short and run by turns,
+/// so that a slow while is shared: w is a small difference of large times.
+fn time_withdrawals(sheets: &str, measured: Measured, named: u64) {
+    let three = accepted_posts(SEED, CALLS, measured);
+    let two = posts_and_withdrawals(SEED, CALLS, measured);
+    let (mut posts, mut both) = (Vec::new(), Vec::new());
+    for _ in 0..TURNS {
+        posts.push(run(named, &three));
+        both.push(run(named, &two));
     }
-    for (name, posts, both) in [
-        ("proved", posts.proved, both.proved),
-        ("plain Rust", posts.plain, both.plain),
-    ] {
-        let micros = |time: Duration| 1e6 * time.as_secs_f64() / (calls as f64 / 3.0);
-        let post = micros(posts) / 3.0;
-        let withdrawal = micros(both) - 2.0 * post;
+    let each: [(&str, fn(&Times) -> Duration); 2] = [
+        ("proved", |run| run.proved),
+        ("plain Rust", |run| run.plain),
+    ];
+    for (name, time) in each {
+        let micros = |runs: &[Times]| usual(runs.iter().map(time).collect()) / (CALLS / 3) as f64;
+        let (posts, both) = (micros(&posts), micros(&both));
+        let post = posts / 3.0;
+        let withdrawal = both - 2.0 * post;
         println!(
-            "{name}, {sheets}: three posts {:.1} µs, two and a withdrawal {:.1} µs; so a post takes \
-             {post:.1} µs and a withdrawal {withdrawal:.1} µs, {:.2} of a post",
-            micros(posts),
-            micros(both),
+            "{name}, {sheets}: three posts {posts:.1} µs, two and a withdrawal {both:.1} µs; so a post \
+             takes {post:.1} µs and a withdrawal {withdrawal:.1} µs, {:.2} of a post",
             withdrawal / post
         );
     }
@@ -152,8 +156,8 @@ fn time<A>(call: impl FnOnce() -> A) -> Duration {
     start.elapsed()
 }
 
-/// In microseconds, the time that a quarter of the calls stay below: the fastest ones are luck,
-/// the slow ones were disturbed.
+/// In microseconds, the time that a quarter of them stay below: the fastest ones are luck, the slow
+/// ones were disturbed.
 fn usual(mut times: Vec<Duration>) -> f64 {
     times.sort();
     times[times.len() / 4].as_secs_f64() * 1e6
