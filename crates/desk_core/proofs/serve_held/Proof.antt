@@ -141,7 +141,8 @@ returns : tie.Need-returns Inv-loop μ-loop
 returns c =
     let at-made = c .before .before in
     let at-loop = at-test (at-asked at-made) in
-    both at-loop (ends-here (at-loop .loop .inv) (makes at-made) (roomy (at-asked at-made)) (at-loop .loop .after) refl (c .not-known .ensures) (c .before .if2 .taken))
+    let room = roomy (at-asked at-made) in
+    both at-loop (ends-here (at-loop .loop .inv) (makes at-made) room (at-loop .loop .after) refl (c .not-known .ensures) (c .before .if2 .taken))
 
 put-reply-requires : tie.Need-put-reply-requires Inv-loop μ-loop
 put-reply-requires c κs =

@@ -21,7 +21,8 @@ add-t9 c = search needs
 returns : tie.Need-returns
 returns c =
     let h = c .before .before .before .before .before .before .args .history in
-    let ways = one-more (h .depth) (c .smaller .result) (asKept (h .sheet)) (asKept (h .first)) (asKept (h .second)) (asKept (h .third)) (c .smaller .ensures) in
+    let least = c .smaller in
+    let ways = one-more (h .depth) (least .result) (asKept (h .sheet)) (asKept (h .first)) (asKept (h .second)) (asKept (h .third)) (least .ensures) in
     ap₂ history (c .before .keep .ensures) ways
 
 pub with-post-spec : {M : Type 1} → statement M
