@@ -1,7 +1,7 @@
 -- Every list of posts, turns, withdrawals and look-ups that records have room for is the meaning of some bytes.
 use mathlib.Core.Path.{_≡_, refl, ap, _∙_}
 use mathlib.Core.List.{List, [], _∷_, _++_}
-use Prim.Native.Nat.{ℕ, zero, suc, _+_, _*_, _/_, _%_, _≤_, _<_}
+use Prim.Native.Nat.{ℕ, zero, suc, _+_, _≤_, _<_}
 use native.Mathlib.Omega.{arith}
 use lib.Dec.{eqb·suc-zero}
 use lib.ListN.{length, length-append}
@@ -9,11 +9,9 @@ use lib.Seq.{take-at, drop-append-seam}
 use borrow.Author.Tests.{le-leb}
 use Rattle.method.specs.Units.{plain, adjusted}
 use Rattle.ledger.specs.Calls.{Call, postOf, turnTo, withdrawal, lookAt, pageInto, asks}
+use Rattle.ledger.proofs.PageLaws.{two-bytes}
 use Rattle.journal.specs.Journal.{whole, recordOf, deskFront, front, decodeFrom, decode, encoded, encode, AreBytes, Fits, AllFit}
 use Rattle.journal.proofs.Decoding.{front-end}
-
-two-bytes : (n : ℕ) → n < 65_536 → n / 256 % 256 * 256 + n % 256 ≡ n
-two-bytes n h = omega arith
 
 record-read : (s : List ℕ) (n : ℕ) (c : Call) → n ≤ length s → recordOf s n c ≡ whole c n
 record-read s n c h = rw (le-leb n (length s) h)

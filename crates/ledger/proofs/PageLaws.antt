@@ -42,7 +42,7 @@ records-length (a ∷ ls) (b ∷ hs) y e = simp (length-append) (omega (arith, r
 
 -- ---- numbers that fit their bytes
 
-two-bytes : (n : ℕ) → n < 65_536 → n / 256 % 256 * 256 + n % 256 ≡ n
+pub two-bytes : (n : ℕ) → n < 65_536 → n / 256 % 256 * 256 + n % 256 ≡ n
 two-bytes n h = omega arith
 
 low-half : (n : ℕ) → n / 256 % 256 * 256 + n % 256 ≡ n % 65_536
