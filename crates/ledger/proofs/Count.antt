@@ -1,4 +1,4 @@
--- The book that a count stands for, with any age limit, and that each call moves both alike.
+-- The book that a count stands for, with any age limit, and that each call moves both alike, and the count that a caller keeps by the answers.
 use mathlib.Core.Path.{_≡_, refl, ap, sym, subst, _∙_}
 use mathlib.Core.Bool.{Bool, true, false, _&&_}
 use mathlib.Core.List.{List, [], _∷_}

@@ -1,8 +1,9 @@
 //! Times posts and a page through the C interface against the second implementation, on
 //! the same journal, in turn, in one run on one machine: bench [POSTS]. Then the same posts
 //! with an X, whose weights are worked anew in each, with two dropped quotes, and with an
-//! adjustment, whose second curve is paged. Then the same posts with a withdrawal in place of every
-//! third, which tells what a withdrawal costs beside a post. Then pages of one post's curve.
+//! adjustment, whose second curve is paged. Then short journals of posts, and the same with a
+//! withdrawal in place of every third, which tells what a withdrawal costs beside a post. Then pages
+//! of one post's curve.
 
 use std::time::{Duration, Instant};
 
