@@ -8,18 +8,21 @@ use borrow.Author.Tests.{le-leb, lt-leb}
 use lib.Dec.{leb, eqb, eqb·suc-zero}
 use lib.ListN.{length, take}
 use lib.Seq.{take-all}
-use Rattle.method.specs.Grounds.{Ground, afterToldMonth, beforeStandingCurve, monthAboveLast, monthBeforeTold}
-use Rattle.method.specs.Grounds.{Outcome, refused, done}
+use Rattle.method.specs.Grounds.{Ground, afterToldMonth, beforeStandingCurve, monthAboveLast, monthBeforeTold, yearOutside, noCurve}
+use Rattle.method.specs.Grounds.{Outcome, refused, done, _>>=_, demand}
 use Rattle.method.specs.Sheet.{Numbers, readSheet, layoutOf}
 use Rattle.method.specs.Units.{plain, adjusted}
-use Rattle.method.specs.Curve.{Curves, none, some, curvesOf, answer}
+use Rattle.method.specs.Curve.{Curves, Held, none, some, curvesOf, answer}
 use Rattle.method.proofs.Reading.{read-passes}
 use Rattle.method.proofs.Layouts.{sizeBy, size-is, any-length}
 use Rattle.ledger.specs.History.{History, wayBack}
 use Rattle.ledger.specs.Book as ledger
-use Rattle.ledger.specs.Book.{Booked, booked, named, notBefore, postOutcome, post, turnOutcome, withTold, turn, ifWorked, standingOf}
-use Rattle.ledger.specs.Book.{withHistory, withdraw, openCurve}
+use Rattle.ledger.specs.Answers.{Wanted}
+use Rattle.ledger.specs.Sums.{Sums, summed as summedOf}
+use Rattle.ledger.specs.Book.{Booked, booked, named, sumsNamed, notBefore, postOutcome, post, turnOutcome, withTold, turn, ifWorked, standingOf}
+use Rattle.ledger.specs.Book.{withHistory, withdraw, openCurve, yearInside, lookIn, shown, lookUp}
 use Rattle.ledger.proofs.Ways.{take-both}
+use Rattle.ledger.proofs.Asked.{shown-refused}
 use Rattle.grounds.specs.declared.Ground as grounds
 use Rattle.grounds.specs.declared.Verdict.{Verdict}
 use Rattle.grounds.specs.declared.Verdict.the-variants.{Refused}
@@ -28,8 +31,10 @@ use Rattle.grounds.proofs.Chain.{at-verdict}
 use Rattle.history.specs.declared.Kept.{Kept}
 use Rattle.history.specs.Views.{longest, keptBytes, asKept}
 use Rattle.curve.specs.declared.Curve as curve
-use Rattle.curve.specs.declared.Curves as curves
 use Rattle.curve.specs.Curves.{asCurve, asHeld}
+use Rattle.sums.specs.declared.Summed as summed
+use Rattle.sums.specs.declared.Sums as sums
+use Rattle.sums.specs.Views.{asSums, asHeldSums}
 use Rattle.book.specs.declared.Book as code
 use Rattle.book.specs.declared.Booked as reply
 use Rattle.book.specs.declared.Which.{Which}
@@ -70,36 +75,76 @@ vacant has c e = rw (not-so has e)
 
 -- ---- the flags beside the curves
 
-module _ (has : Bool) (cs : curves.Curves) where
-  pub named-plain : named plain (standingIf has cs) ≡ asHeld has (cs .plain)
+module _ (has : Bool) (k : summed.Summed) where
+  pub named-plain : named plain (standingIf has k) ≡ asHeld has (k .curves .plain)
   named-plain = go has
     where
-      go : (t : Bool) → named plain (standingIf t cs) ≡ asHeld t (cs .plain)
+      go : (t : Bool) → named plain (standingIf t k) ≡ asHeld t (k .curves .plain)
       go true = refl
       go false = refl
 
-  pub named-adjusted : named adjusted (standingIf has cs) ≡ asHeld (has && cs .adjusts) (cs .adjusted)
+  pub named-adjusted : named adjusted (standingIf has k) ≡ asHeld (has && k .curves .adjusts) (k .curves .adjusted)
   named-adjusted = go has
     where
-      go : (t : Bool) → named adjusted (standingIf t cs) ≡ asHeld (t && cs .adjusts) (cs .adjusted)
+      go : (t : Bool) → named adjusted (standingIf t k) ≡ asHeld (t && k .curves .adjusts) (k .curves .adjusted)
       go true = refl
       go false = refl
 
-  pub order-is : (month : ℕ) → cond has (leb (cs .plain .month) month) true ≡ notBefore (standingIf has cs) month
+  pub sums-plain : sumsNamed plain (standingIf has k) ≡ asHeldSums has (k .plain)
+  sums-plain = go has
+    where
+      go : (t : Bool) → sumsNamed plain (standingIf t k) ≡ asHeldSums t (k .plain)
+      go true = refl
+      go false = refl
+
+  pub sums-adjusted : sumsNamed adjusted (standingIf has k) ≡ asHeldSums (has && k .curves .adjusts) (k .adjusted)
+  sums-adjusted = go has
+    where
+      go : (t : Bool) → sumsNamed adjusted (standingIf t k) ≡ asHeldSums (t && k .curves .adjusts) (k .adjusted)
+      go true = refl
+      go false = refl
+
+  pub order-is : (month : ℕ) → cond has (leb (k .curves .plain .month) month) true ≡ notBefore (standingIf has k) month
   order-is month = go has
     where
-      go : (t : Bool) → cond t (leb (cs .plain .month) month) true ≡ notBefore (standingIf t cs) month
+      go : (t : Bool) → cond t (leb (k .curves .plain .month) month) true ≡ notBefore (standingIf t k) month
       go true = refl
       go false = refl
 
 -- what a call names
 module _ (b : code.Book) (w : Which) where
-  pub plain-named : w ≡ Plain → named (asWhich w) (asBook b .standing) ≡ asHeld (b .standing .has) (b .standing .curves .plain)
-  plain-named e = rw e (named-plain (b .standing .has) (b .standing .curves))
+  pub plain-named : w ≡ Plain → named (asWhich w) (asBook b .standing) ≡ asHeld (b .standing .has) (b .standing .summed .curves .plain)
+  plain-named e = rw e (named-plain (b .standing .has) (b .standing .summed))
 
-  pub adjusted-named : w ≡ Adjusted → {t : Bool} → t ≡ (b .standing .has && b .standing .curves .adjusts) →
-      named (asWhich w) (asBook b .standing) ≡ asHeld t (b .standing .curves .adjusted)
-  adjusted-named e s = rw (e, s) (named-adjusted (b .standing .has) (b .standing .curves))
+  pub adjusted-named : w ≡ Adjusted → {t : Bool} → t ≡ (b .standing .has && b .standing .summed .curves .adjusts) →
+      named (asWhich w) (asBook b .standing) ≡ asHeld t (b .standing .summed .curves .adjusted)
+  adjusted-named e s = rw (e, s) (named-adjusted (b .standing .has) (b .standing .summed))
+
+  pub plain-sums : w ≡ Plain → sumsNamed (asWhich w) (asBook b .standing) ≡ asHeldSums (b .standing .has) (b .standing .summed .plain)
+  plain-sums e = rw e (sums-plain (b .standing .has) (b .standing .summed))
+
+  pub adjusted-sums : w ≡ Adjusted → {t : Bool} → t ≡ (b .standing .has && b .standing .summed .curves .adjusts) →
+      sumsNamed (asWhich w) (asBook b .standing) ≡ asHeldSums t (b .standing .summed .adjusted)
+  adjusted-sums e s = rw (e, s) (sums-adjusted (b .standing .has) (b .standing .summed))
+
+-- ---- the sums of a look-up: where no curve stands it is refused, whatever is beside it
+
+same-refusal : (v : Wanted) (u k : Held Sums) (y : ℕ) (t : Bool) →
+    shown v u y (demand t yearOutside >>= (λ _. refused noCurve)) ≡ shown v k y (demand t yearOutside >>= (λ _. refused noCurve))
+same-refusal v u k y true = shown-refused v u y refl ∙ sym (shown-refused v k y refl)
+same-refusal v u k y false = shown-refused v u y refl ∙ sym (shown-refused v k y refl)
+
+pub shown-held : (v : Wanted) (has : Bool) (c : curve.Curve) (k : sums.Sums) (told limit y : ℕ) →
+    shown v (some (asSums k)) y (lookIn (asHeld has c) told limit y) ≡ shown v (asHeldSums has k) y (lookIn (asHeld has c) told limit y)
+unfolding lookIn
+shown-held v true c k told limit y = refl
+shown-held v false c k told limit y = same-refusal v (some (asSums k)) none y (yearInside y)
+
+-- what a look-up comes to, by the curve that it names and the sums beside it
+pub looked-up : (b : code.Book) (w : Which) (v : Wanted) (y : ℕ) (has : Bool) (c : curve.Curve) (k : sums.Sums) →
+    named (asWhich w) (asBook b .standing) ≡ asHeld has c → sumsNamed (asWhich w) (asBook b .standing) ≡ asHeldSums has k →
+    shown v (some (asSums k)) y (lookIn (asHeld has c) (b .told) (b .«age_limit») y) ≡ lookUp (asBook b) (asWhich w) v y
+looked-up b w v y has c k is-curve is-sums = rw (is-curve, is-sums) (shown-held v has c k (b .told) (b .«age_limit») y)
 
 -- ---- what was asked of the curve: w is what a match found the verdict to be
 
@@ -178,7 +223,7 @@ module _ (s : List ℕ) where
     unfolding answer
     not-worked e = rw (read, e)
 
-    pub worked-to : {cs : Curves} → curvesOf n ≡ done cs → some cs ≡ ifWorked (answer s)
+    pub worked-to : {cs : Curves} → curvesOf n ≡ done cs → some (summedOf cs) ≡ ifWorked (answer s)
     unfolding answer
     worked-to e = rw (read, e)
 

@@ -10,6 +10,7 @@ use Rattle.method.specs.Sheet.{Numbers}
 use Rattle.method.specs.Curve.{Curve, Curves, curvesOf}
 use Rattle.zero_rates.specs.Rates.{zeroRates}
 use Rattle.ledger.specs.Answers.{Finding, finding}
+use Rattle.ledger.specs.Sums.{Sums}
 use Rattle.ledger.specs.Book.{Book, Booked, booked, notBefore, withCurves, age, openCurve, bandAt, Paged, pageIn}
 use Rattle.grounds.specs.declared.Verdict.{Verdict}
 use Rattle.grounds.specs.Verdicts.{asOutcome}
@@ -40,6 +41,10 @@ abbrev pub foundAt : Curve → ℕ → ℕ → Outcome Finding
 foundAt c told y = do
   rates ← zeroRates y (bandAt c y)
   done (finding (bandAt c y) rates (c .month) (age told c))
+
+-- sums that are lent apart
+abbrev pub sumsBy : List ℕ → List ℕ → Sums
+sumsBy lows highs = record { lows = lows; highs = highs }
 
 -- the page of a curve or none, for which its month and its bands are all that counts
 abbrev pub Pages : Bool → ℕ → List ℕ → List ℕ → ℕ → ℕ → List ℕ → Paged → Type 0

@@ -5,34 +5,42 @@ use Prim.Native.Nat.{ℕ}
 use lib.IntN.{pos}
 use Rattle.method.specs.Units as method
 use Rattle.method.specs.Units.{pair, signedPair}
+use Rattle.method.specs.Grounds.{Outcome}
 use Rattle.method.specs.Curve.{none, some}
 use Rattle.ledger.specs.Answers as answer
 use Rattle.ledger.specs.Answers.{finding}
 use Rattle.ledger.specs.Book as ledger
 use Rattle.grounds.specs.declared.Verdict.{Verdict}
 use Rattle.grounds.specs.Verdicts.{asOutcome}
-use Rattle.curve.specs.declared.Curves.{Curves}
-use Rattle.curve.specs.Curves.{asCurves}
+use Rattle.sums.specs.declared.Summed.{Summed}
+use Rattle.sums.specs.Views.{asSummed}
 use Rattle.book.specs.declared.Which.{Which}
 use Rattle.book.specs.declared.Which.the-variants as which
+use Rattle.book.specs.declared.Wanted.{Wanted}
+use Rattle.book.specs.declared.Wanted.the-variants as wanted
 use Rattle.history.specs.Views.{asHistory}
 use Rattle.book.specs.declared.Standing.{Standing}
 use Rattle.book.specs.declared.Book.{Book}
 use Rattle.book.specs.declared.Booked.{Booked}
 use Rattle.book.specs.declared.Withdrawn.{Withdrawn}
 use Rattle.book.specs.declared.Finding.{Finding}
+use Rattle.book.specs.declared.Looked.{Looked}
+
+abbrev pub asWanted : Wanted → answer.Wanted
+asWanted wanted.Factor = answer.Wanted.factor
+asWanted wanted.Sum = answer.Wanted.sum
 
 abbrev pub asWhich : Which → method.Which
 asWhich which.Plain = method.Which.plain
 asWhich which.Adjusted = method.Which.adjusted
 
--- a flag beside the curves
-abbrev pub standingIf : Bool → Curves → ledger.Standing
-standingIf true cs = some (asCurves cs)
-standingIf false cs = none
+-- a flag beside the curves and their sums
+abbrev pub standingIf : Bool → Summed → ledger.Standing
+standingIf true k = some (asSummed k)
+standingIf false k = none
 
 abbrev pub asStanding : Standing → ledger.Standing
-asStanding k = standingIf (k .has) (k .curves)
+asStanding k = standingIf (k .has) (k .summed)
 
 abbrev pub asBook : Book → ledger.Book
 asBook b = record { ageLimit = b .«age_limit»; told = b .told; standing = asStanding (b .standing); history = asHistory (b .history) }
@@ -45,6 +53,9 @@ asWithdrawn r = record { book = asBook (r .book); answer = asOutcome (r .verdict
 
 abbrev pub asFinding : Finding → answer.Finding
 asFinding f = finding (pair (f .low) (f .high)) (signedPair (f .«low_rate») (f .«high_rate»)) (f .month) (f .age)
+
+abbrev pub asLooked : Looked → Outcome answer.Finding
+asLooked r = asOutcome (r .verdict) (asFinding (r .finding))
 
 -- what stands beside a refusal
 abbrev pub noFinding : answer.Finding

@@ -1,4 +1,4 @@
-// The dated curve book: its age limit, the told month, the curves that stand, and the sheets that withdrawals bring back. No other crate
+// The dated curve book: its age limit, the told month, the curves that stand with their sums, and the sheets that withdrawals bring back. No other crate
 // can build a book or read one, so each came from a list of calls that began with `fresh`.
 use curve::Curve;
 use curve::Curves;
@@ -7,29 +7,31 @@ use grounds::Verdict;
 use history::History;
 use history::Kept;
 use sheet::Numbers;
+use sums::Summed;
 ghost use mathlib.Core.Path.{_≡_};
 ghost use mathlib.Core.Bool.{true, cond, _&&_};
 ghost use Prim.Native.Nat.{_-_, _≤_};
 ghost use lib.Dec.{leb};
 ghost use Rattle.method.specs.Grounds.{done};
 ghost use Rattle.method.specs.Ranges.{NumbersInRange};
-ghost use Rattle.method.specs.Curve.{none, answer};
-ghost use Rattle.ledger.specs.Book.{fresh, withTold, post, turn, ifWorked, standingOf, withHistory, withdraw, lookIn, lookUp, page};
+ghost use Rattle.method.specs.Curve.{none, some, answer};
+ghost use Rattle.ledger.specs.Sums.{summed};
+ghost use Rattle.ledger.specs.Book.{fresh, withTold, post, turn, ifWorked, standingOf, withHistory, withdraw, lookIn, shown, lookUp, page};
 ghost use Rattle.page_writer.specs.Written.{Bands};
-ghost use Rattle.grounds.specs.Verdicts.{asOutcome, resultOr};
+ghost use Rattle.grounds.specs.Verdicts.{resultOr};
 ghost use Rattle.sheet.specs.Views.{asNumbers};
 ghost use Rattle.curve.specs.Curves.{asCurve, asHeld, asCurves};
 ghost use Rattle.history.specs.Views.{asKept, asHistory};
-ghost use Rattle.book.specs.Views.{asWhich, asStanding, asBook, asBooked, asWithdrawn, asFinding, noFinding, asPaged};
-ghost use Rattle.book.specs.Steps.{Fits, posted, afterReading, Opens, foundAt, Pages};
+ghost use Rattle.book.specs.Views.{asWhich, asWanted, asStanding, asBook, asBooked, asWithdrawn, asFinding, asLooked, noFinding, asPaged};
+ghost use Rattle.book.specs.Steps.{Fits, posted, afterReading, Opens, foundAt, sumsBy, Pages};
 
 // No curve can be older, as no month after 2,399 can be told.
 pub const LARGEST_AGE_LIMIT: u64 = 2_399;
 
-// Without `has` the curves are all zero and stand for none.
+// Without `has` the curves and the sums are all zero and stand for none.
 pub struct Standing {
     has: bool,
-    curves: Curves,
+    summed: Summed,
 }
 
 pub struct Book {
@@ -45,6 +47,12 @@ pub enum Which {
     Adjusted,
 }
 
+// What a look-up asks for: the year's factor, or the sum of the factors of years 1 to it.
+pub enum Wanted {
+    Factor,
+    Sum,
+}
+
 // A post or a turn. The month is 0 where it is refused.
 pub struct Booked {
     pub verdict: Verdict,
@@ -57,7 +65,7 @@ pub struct Withdrawn {
     pub book: Book,
 }
 
-// A year's band and its zero rates, in hundred-thousandths of one, with the month and the age of the curve.
+// A low and a high, the year's zero rates, in hundred-thousandths of one, and the month and the age of the curve.
 pub struct Finding {
     pub low: u64,
     pub high: u64,
@@ -78,11 +86,21 @@ fn nothing_stands() -> Standing
 {
     Standing {
         has: false,
-        curves: Curves {
+        summed: sums::with_sums(Curves {
             plain: curve::no_curve(),
             adjusts: false,
             adjusted: curve::no_curve(),
-        },
+        }),
+    }
+}
+
+// Wherever curves come to stand, their sums do.
+fn stand(curves: Curves) -> Standing
+    ensures { λ r. ⌜ asStanding r ≡ some (summed (asCurves curves)) ⌝ }
+{
+    Standing {
+        has: true,
+        summed: sums::with_sums(curves),
     }
 }
 
@@ -113,7 +131,7 @@ fn turned_down(book: Book, verdict: Verdict) -> Booked
 
 // ---- post
 
-// The curves and their month are replaced, and what stood can be had back.
+// The curves, their sums and their month are replaced, and what stood can be had back.
 fn accepted(book: Book, curves: Curves, sheet: &[u8]) -> Booked
     requires { ⌜ Fits (now sheet) ⌝ }
     ensures booked { λ r. ⌜ asBooked r ≡ posted (asBook book) (now (sheet .entry)) (done (asCurves curves)) ⌝ }
@@ -127,10 +145,7 @@ fn accepted(book: Book, curves: Curves, sheet: &[u8]) -> Booked
         book: Book {
             age_limit: book.age_limit,
             told: book.told,
-            standing: Standing {
-                has: true,
-                curves: curves,
-            },
+            standing: stand(curves),
             history: history::with_post(stood, sheet),
         },
     }
@@ -152,7 +167,11 @@ fn post_numbers(book: Book, n: Numbers, sheet: &[u8]) -> Booked
     if book.told < n.month {
         return turned_down(book, Verdict::Refused(Ground::AfterToldMonth));
     }
-    if !not_before(book.standing.has, book.standing.curves.plain.month, n.month) {
+    if !not_before(
+        book.standing.has,
+        book.standing.summed.curves.plain.month,
+        n.month,
+    ) {
         return turned_down(book, Verdict::Refused(Ground::BeforeStandingCurve));
     }
     let worked = curve::from_numbers(n);
@@ -206,7 +225,7 @@ pub fn turn(book: Book, month: u64) -> Booked
 
 // ---- withdrawal
 
-// The curves of a sheet, if it works.
+// The curves of a sheet and their sums, if it works.
 fn worked(sheet: &[u8]) -> Standing
     ensures { λ r. ⌜ asStanding r ≡ ifWorked (answer (now (sheet .entry))) ⌝ }
 {
@@ -222,10 +241,7 @@ fn worked(sheet: &[u8]) -> Standing
         return nothing_stands();
     };
     let curves = made.curves;
-    Standing {
-        has: true,
-        curves: curves,
-    }
+    stand(curves)
 }
 
 // Where nothing was kept there are no bytes, and these work to no curve.
@@ -327,7 +343,7 @@ fn not_found(verdict: Verdict) -> Looked
 // What the curve has for a year, or 17.
 fn found(curve: Curve, told: u64, year: u64) -> Looked
     requires { ⌜ (1 ≤ year) × (year ≤ 150) ⌝ }
-    ensures outcome { λ r. ⌜ asOutcome (r .verdict) (asFinding (r .finding)) ≡ foundAt (asCurve curve) told year ⌝ }
+    ensures outcome { λ r. ⌜ asLooked r ≡ foundAt (asCurve curve) told year ⌝ }
     ensures beside { λ r. ⌜ asFinding (r .finding) ≡ resultOr noFinding (foundAt (asCurve curve) told year) ⌝ }
 {
     let years = curve.years;
@@ -355,7 +371,7 @@ fn found(curve: Curve, told: u64, year: u64) -> Looked
 
 // Of any curve, or none.
 fn look_in(has: bool, curve: Curve, told: u64, age_limit: u64, year: u64) -> Looked
-    ensures outcome { λ r. ⌜ asOutcome (r .verdict) (asFinding (r .finding)) ≡ lookIn (asHeld has curve) told «age_limit» year ⌝ }
+    ensures outcome { λ r. ⌜ asLooked r ≡ lookIn (asHeld has curve) told «age_limit» year ⌝ }
     ensures beside { λ r. ⌜ asFinding (r .finding) ≡ resultOr noFinding (lookIn (asHeld has curve) told «age_limit» year) ⌝ }
 {
     if year < 1 {
@@ -371,19 +387,55 @@ fn look_in(has: bool, curve: Curve, told: u64, age_limit: u64, year: u64) -> Loo
     found(curve, told, year)
 }
 
-pub fn look_up(book: Book, which: Which, year: u64) -> Looked
-    ensures outcome { λ r. ⌜ asOutcome (r .verdict) (asFinding (r .finding)) ≡ lookUp (asBook book) (asWhich which) year ⌝ }
-    ensures beside { λ r. ⌜ asFinding (r .finding) ≡ resultOr noFinding (lookUp (asBook book) (asWhich which) year) ⌝ }
+// The sum to the year in place of the factor, where one was found.
+fn shown<'a>(wanted: Wanted, looked: Looked, lows: &'a [u64], highs: &'a [u64], year: u64) -> Looked
+    requires { ⌜ asFinding (looked .finding) ≡ resultOr noFinding (asLooked looked) ⌝ }
+    ensures outcome { λ r. ⌜ asLooked r ≡ shown (asWanted wanted) (some (sumsBy (now (lows .entry)) (now (highs .entry)))) year (asLooked looked) ⌝ }
+    ensures beside { λ r. ⌜ asFinding (r .finding) ≡ resultOr noFinding (asLooked r) ⌝ }
+{
+    let Wanted::Sum = wanted else {
+        return looked;
+    };
+    let verdict = looked.verdict;
+    let Verdict::Passed = verdict else {
+        return looked;
+    };
+    let mut finding = looked.finding;
+    finding.low = sums::to_year(lows, year);
+    finding.high = sums::to_year(highs, year);
+    Looked {
+        verdict: Verdict::Passed,
+        finding: finding,
+    }
+}
+
+pub fn look_up(book: Book, which: Which, wanted: Wanted, year: u64) -> Looked
+    ensures outcome { λ r. ⌜ asLooked r ≡ lookUp (asBook book) (asWhich which) (asWanted wanted) year ⌝ }
+    ensures beside { λ r. ⌜ asFinding (r .finding) ≡ resultOr noFinding (lookUp (asBook book) (asWhich which) (asWanted wanted) year) ⌝ }
 {
     match which {
         Which::Plain => {
-            let plain = book.standing.curves.plain;
-            look_in(book.standing.has, plain, book.told, book.age_limit, year)
+            let plain = book.standing.summed.curves.plain;
+            let looked = look_in(book.standing.has, plain, book.told, book.age_limit, year);
+            shown(
+                wanted,
+                looked,
+                &book.standing.summed.plain.lows,
+                &book.standing.summed.plain.highs,
+                year,
+            )
         }
         Which::Adjusted => {
-            let adjusted = book.standing.curves.adjusted;
-            let stands = both(book.standing.has, book.standing.curves.adjusts);
-            look_in(stands, adjusted, book.told, book.age_limit, year)
+            let adjusted = book.standing.summed.curves.adjusted;
+            let stands = both(book.standing.has, book.standing.summed.curves.adjusts);
+            let looked = look_in(stands, adjusted, book.told, book.age_limit, year);
+            shown(
+                wanted,
+                looked,
+                &book.standing.summed.adjusted.lows,
+                &book.standing.summed.adjusted.highs,
+                year,
+            )
         }
     }
 }
@@ -420,18 +472,18 @@ pub fn page(book: Book, which: Which, out: &mut [u8]) -> Verdict
     match which {
         Which::Plain => page_in(
             book.standing.has,
-            book.standing.curves.plain.month,
-            &book.standing.curves.plain.years.lows,
-            &book.standing.curves.plain.years.highs,
+            book.standing.summed.curves.plain.month,
+            &book.standing.summed.curves.plain.years.lows,
+            &book.standing.summed.curves.plain.years.highs,
             book.told,
             book.age_limit,
             out,
         ),
         Which::Adjusted => page_in(
-            both(book.standing.has, book.standing.curves.adjusts),
-            book.standing.curves.adjusted.month,
-            &book.standing.curves.adjusted.years.lows,
-            &book.standing.curves.adjusted.years.highs,
+            both(book.standing.has, book.standing.summed.curves.adjusts),
+            book.standing.summed.curves.adjusted.month,
+            &book.standing.summed.curves.adjusted.years.lows,
+            &book.standing.summed.curves.adjusted.years.highs,
             book.told,
             book.age_limit,
             out,

@@ -17,7 +17,8 @@ use Rattle.method.proofs.Computes.{computes}
 use Rattle.zero_rates.specs.Meaning.{grown, AtMost, HighRateExists}
 use Rattle.zero_rates.proofs.Computes.{rates-compute}
 use Rattle.zero_rates.proofs.Theorem.{exists-by, greatest-reaches}
-use Rattle.ledger.specs.Answers.{Finding, finding, answerNumber}
+use Rattle.ledger.specs.Answers.{factor, Finding, finding, answerNumber}
+use Rattle.ledger.specs.Sums.{runningFrom}
 use Rattle.ledger.specs.Page.{yearRecords, pageBytes}
 use Rattle.ledger.specs.Book.{Book, fresh, post, postOutcome, turn, turnOutcome, withdraw, lookIn, lookUp, page, pageOutcome}
 use Rattle.ledger.specs.Calls.{Call, postOf, turnTo, lookAt, pageInto, asks, runFrom, run}
@@ -41,21 +42,22 @@ morning = turnTo 2 ∷ postOf february ∷ []
 
 day : List Call
 day =
-    asks (lookAt plain 1) ∷ postOf february ∷ turnTo 2 ∷ postOf february ∷ asks (lookAt plain 20) ∷ postOf march ∷ postOf february ∷ turnTo 1
+    asks (lookAt plain factor 1) ∷ postOf february ∷ turnTo 2 ∷ postOf february ∷ asks (lookAt plain factor 20) ∷ postOf march ∷ postOf february ∷ turnTo 1
     ∷ turnTo 2_400 ∷ postOf [] ∷ turnTo 3 ∷ asks (pageInto plain []) ∷ []
 
 -- opens what the examples compute with
 calls-open : ℕ
-unfolding rates-compute post postOutcome turn turnOutcome withdraw lookIn pageOutcome pageBytes yearRecords acceptsSheet acceptsMonth acceptsWithdrawal
+unfolding rates-compute post postOutcome turn turnOutcome withdraw runningFrom lookIn pageOutcome pageBytes yearRecords
+    acceptsSheet acceptsMonth acceptsWithdrawal
 calls-open = 0
 
 -- a look-up: the ground's number, or 0, low, high, month and age
+unfoldable pub found : Outcome Finding → List ℕ
+found (refused g) = numberOf g ∷ []
+found (done f) = 0 ∷ f .low ∷ f .high ∷ f .month ∷ f .age ∷ []
+
 unfoldable pub look : Book → ℕ → List ℕ
-look b y = numbers (lookUp b plain y)
-  where
-    numbers : Outcome Finding → List ℕ
-    numbers (refused g) = numberOf g ∷ []
-    numbers (done f) = 0 ∷ f .low ∷ f .high ∷ f .month ∷ f .age ∷ []
+look b y = found (lookUp b plain factor y)
 
 -- a post, a turn and a page: the ground's number, or 0
 unfoldable pub answers : {A : Type 0} → Outcome A → List ℕ
@@ -82,7 +84,7 @@ evening b =
     ∷ []
 
 unfoldable pub opens : ℕ
-unfolding computes calls-open february march morning day flat rateRecords volumeRecords look answers early evening
+unfolding computes calls-open february march morning day flat rateRecords volumeRecords found look answers early evening
 opens = 0
 
 early-seen : early ≡ (14 ∷ []) ∷ (5 ∷ []) ∷ []
@@ -123,7 +125,7 @@ at-limit = turnTo 10 ∷ postOf old ∷ []
 -- of month 6 is before it, and one of month 8 opens the book again
 aging : Book → List (List ℕ)
 aging b =
-    let older = runFrom b (asks (lookAt plain 20) ∷ turnTo 11 ∷ []) in
+    let older = runFrom b (asks (lookAt plain factor 20) ∷ turnTo 11 ∷ []) in
     look b 20
     ∷ look older 20
     ∷ look older 0
@@ -164,12 +166,12 @@ limits = ((refl, refl), (refl, refl))
 
 -- ---- a sheet so steep that some years have no high rate up to 100,000
 
-steep : List ℕ
+unfoldable pub steep : List ℕ
 steep = sheetOf 0 (replicate 9 0 ++ replicate 8 11_111) (replicate 5 1) 10_000 100_000
 
 -- a look-up's rates, or the ground's number
 rates : Book → ℕ → List ℤ
-rates b y = numbers (lookUp b plain y)
+rates b y = numbers (lookUp b plain factor y)
   where
     numbers : Outcome Finding → List ℤ
     numbers (refused g) = pos (numberOf g) ∷ []
@@ -216,7 +218,7 @@ march-rated : HighRateExists 20 (bandOf plain march 20 .low)
 unfolding opens
 march-rated = exists-by 20 553_675_753 refl
 
-february-under-march : (r : SignedPair) → LookTells 2_399 (count day) plain 20 (done (finding (pair 1_000_000_000 1_000_000_000) r 2 1)) → ⊥
+february-under-march : (r : SignedPair) → LookTells 2_399 (count day) plain factor 20 (done (finding (pair 1_000_000_000 1_000_000_000) r 2 1)) → ⊥
 february-under-march r tells =
     let found = tells .finds march (march-sheet, refl) young (omega arith) (omega arith) march-rated .found in
     let low : _≡_ {A = ℕ} 1_000_000_000 (bandOf plain march 20 .low) = ap low-of found in
@@ -233,7 +235,7 @@ blank-page tells =
 abbrev in-month : ℕ → Count
 in-month m = record { told = m; posts = old ∷ []; depth = 1 }
 
-past-counted : count (turnTo 10 ∷ postOf old ∷ asks (lookAt plain 20) ∷ turnTo 11 ∷ []) ≡ in-month 11
+past-counted : count (turnTo 10 ∷ postOf old ∷ asks (lookAt plain factor 20) ∷ turnTo 11 ∷ []) ≡ in-month 11
 unfolding ages-open
 past-counted = refl
 
@@ -245,18 +247,18 @@ old-rated : HighRateExists 20 (bandOf plain old 20 .low)
 unfolding ages-open
 old-rated = exists-by 20 1_000_000_000 refl
 
-old-curve-shown : (f : Finding) → LookTells 3 (in-month 11) plain 20 (done f) → ⊥
+old-curve-shown : (f : Finding) → LookTells 3 (in-month 11) plain factor 20 (done f) → ⊥
 old-curve-shown f tells = refusal-kept refl (tells .too-old old (refl, refl) (omega (arith, month-7)) (omega arith) (omega arith))
 
-old-curve-missing : LookTells 3 (in-month 11) plain 20 (refused noCurve) → ⊥
+old-curve-missing : LookTells 3 (in-month 11) plain factor 20 (refused noCurve) → ⊥
 old-curve-missing tells = other-ground refl (tells .too-old old (refl, refl) (omega (arith, month-7)) (omega arith) (omega arith)) (λ n. omega (arith, n))
 
-closed-at-limit : LookTells 3 (in-month 10) plain 20 (refused ageAboveLimit) → ⊥
+closed-at-limit : LookTells 3 (in-month 10) plain factor 20 (refused ageAboveLimit) → ⊥
 closed-at-limit tells = refusal-kept (tells .finds old (refl, refl) (omega (arith, month-7)) (omega arith) (omega arith) old-rated .found) refl
 
 -- ---- and of the rates: a low rate that is not the largest; a year without a high rate shown all the same
 
-low-rate-of : Outcome Finding → ℤ
+unfoldable pub low-rate-of : Outcome Finding → ℤ
 low-rate-of (refused g) = pos 0
 low-rate-of (done f) = f .lowRate
 
@@ -265,7 +267,7 @@ march-passes : AtMost 20 (bandOf plain march 20 .high) (pos 2_999)
 unfolding opens grown
 march-passes = leZ-yes tt
 
-low-rate-too-low : LookTells 2_399 (count day) plain 20 (done (finding (pair 553_675_753 553_675_756) (signedPair (pos 2_998) (pos 3_001)) 2 1)) → ⊥
+low-rate-too-low : LookTells 2_399 (count day) plain factor 20 (done (finding (pair 553_675_753 553_675_756) (signedPair (pos 2_998) (pos 3_001)) 2 1)) → ⊥
 unfolding low-rate-of
 low-rate-too-low tells =
     let finds = tells .finds march (march-sheet, refl) young (omega arith) (omega arith) march-rated in
@@ -277,7 +279,7 @@ steep-unrated : HighRateExists 150 (bandOf plain steep 150 .low) → ⊥
 unfolding steep-opens
 steep-unrated exists = let z : _≡_ {A = ℕ} 0 1 = cc (greatest-reaches 150 0 exists) in omega arith
 
-unrated-shown : (f : Finding) → LookTells 2_399 (record { told = 0; posts = steep ∷ []; depth = 1 }) plain 150 (done f) → ⊥
+unrated-shown : (f : Finding) → LookTells 2_399 (record { told = 0; posts = steep ∷ []; depth = 1 }) plain factor 150 (done f) → ⊥
 unrated-shown f tells = refusal-kept refl (tells .no-high-rate steep (refl, refl) (omega arith) (omega arith) (omega arith) steep-unrated)
 
 -- ---- the adjusted curve: March's sheet with an adjustment of 0.1%, and without
@@ -287,11 +289,7 @@ adjusted-march = march ++ 0x07 ∷ 0 ∷ 100 ∷ []
 
 -- a look-up of the adjusted curve
 other : Book → ℕ → List ℕ
-other b y = numbers (lookUp b adjusted y)
-  where
-    numbers : Outcome Finding → List ℕ
-    numbers (refused g) = numberOf g ∷ []
-    numbers (done f) = 0 ∷ f .low ∷ f .high ∷ f .month ∷ f .age ∷ []
+other b y = found (lookUp b adjusted factor y)
 
 -- both curves of one sheet, with its month; year 151: 13; of its page hex 48 and the record of year 20. Then a sheet without an adjustment
 -- is posted: 14, for the page too; and a plain look-up finds it
@@ -356,7 +354,7 @@ unfolding adjusted-opens
 adjusted-rated = exists-by 20 542_712_164 refl
 
 -- demand 3 refuses the plain factor as the adjusted one; 14 where the sheet has an adjustment; and any factor where it has none
-plain-as-adjusted : (r : SignedPair) → LookTells 2_399 (with-sheet adjusted-march) adjusted 20 (done (finding (pair 553_675_753 553_675_756) r 2 1)) → ⊥
+plain-as-adjusted : (r : SignedPair) → LookTells 2_399 (with-sheet adjusted-march) adjusted factor 20 (done (finding (pair 553_675_753 553_675_756) r 2 1)) → ⊥
 plain-as-adjusted r tells =
     let found = tells .finds adjusted-march (refl, carried) adjusted-young (omega arith) (omega arith) adjusted-rated .found in
     let low : _≡_ {A = ℕ} 553_675_753 (bandOf adjusted adjusted-march 20 .low) = ap low-of found in
@@ -366,12 +364,12 @@ not-missing : missing adjusted (some adjusted-march) ≡ false
 unfolding adjusted-opens
 not-missing = refl
 
-adjusted-said-missing : LookTells 2_399 (with-sheet adjusted-march) adjusted 20 (refused noCurve) → ⊥
+adjusted-said-missing : LookTells 2_399 (with-sheet adjusted-march) adjusted factor 20 (refused noCurve) → ⊥
 adjusted-said-missing tells = false≢true (sym not-missing ∙ tells .none-found (omega arith) (omega arith) .0 refl)
 
 is-missing : missing adjusted (some march) ≡ true
 unfolding adjusted-opens
 is-missing = refl
 
-missing-shown : (f : Finding) → LookTells 2_399 (with-sheet march) adjusted 20 (done f) → ⊥
+missing-shown : (f : Finding) → LookTells 2_399 (with-sheet march) adjusted factor 20 (done f) → ⊥
 missing-shown f tells = refusal-kept refl (tells .none-found (omega arith) (omega arith) .1 is-missing)

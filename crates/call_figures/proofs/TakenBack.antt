@@ -9,7 +9,7 @@ use Rattle.method.specs.Units.{plain, pair, SignedPair}
 use Rattle.method.specs.Grounds.{noCurve, Outcome, refused, done}
 use Rattle.zero_rates.specs.Meaning.{HighRateExists}
 use Rattle.zero_rates.proofs.Theorem.{exists-by}
-use Rattle.ledger.specs.Answers.{Finding, finding}
+use Rattle.ledger.specs.Answers.{factor, Finding, finding}
 use Rattle.ledger.specs.Book.{Book, post, withdraw}
 use Rattle.ledger.specs.Calls.{Call, postOf, turnTo, withdrawal, run}
 use Rattle.ledger.specs.Count.{Count, monthOf, count}
@@ -80,10 +80,10 @@ second-rated : HighRateExists 1 (bandOf plain second 1 .low)
 unfolding back-opens
 second-rated = exists-by 1 998_003_992 refl
 
-second-found : (a : Outcome Finding) → LookTells 2_399 back plain 1 a → Finds back plain second 1 a
+second-found : (a : Outcome Finding) → LookTells 2_399 back plain factor 1 a → Finds back plain factor second 1 a
 second-found a tells = tells .finds second (refl, refl) (omega (arith, second-month)) (omega arith) (omega arith) second-rated
 
-withdrawn-shown : (r : SignedPair) → LookTells 2_399 back plain 1 (done (finding (pair 995_024_875 995_024_876) r 5 5)) → ⊥
+withdrawn-shown : (r : SignedPair) → LookTells 2_399 back plain factor 1 (done (finding (pair 995_024_875 995_024_876) r 5 5)) → ⊥
 withdrawn-shown r tells =
     let low : _≡_ {A = ℕ} 995_024_875 (bandOf plain second 1 .low) = ap low-of (second-found _ tells .found) in
     omega (arith, low, second-low)
@@ -92,11 +92,11 @@ month-of : Outcome Finding → ℕ
 month-of (refused g) = 0
 month-of (done f) = f .month
 
-month-kept : (r : SignedPair) → LookTells 2_399 back plain 1 (done (finding (pair 998_003_992 998_003_993) r 5 5)) → ⊥
+month-kept : (r : SignedPair) → LookTells 2_399 back plain factor 1 (done (finding (pair 998_003_992 998_003_993) r 5 5)) → ⊥
 unfolding month-of
 month-kept r tells =
     let month : _≡_ {A = ℕ} 5 (monthOf second) = ap month-of (second-found _ tells .found) in
     omega (arith, month, second-month)
 
-second-missing : LookTells 2_399 back plain 1 (refused noCurve) → ⊥
+second-missing : LookTells 2_399 back plain factor 1 (refused noCurve) → ⊥
 second-missing tells = refusal-kept (second-found _ tells .found) refl

@@ -9,6 +9,7 @@ use lib.ListN.{length, getD, drop, length-append, length-drop, List·getD-append
 use lib.Seq.{take-append-le, drop-append-le}
 use borrow.Author.Tests.{leb-true, leb-false, le-leb, ne-eqb}
 use Rattle.method.specs.Units.{plain}
+use Rattle.ledger.specs.Answers.{factor}
 use Rattle.ledger.specs.Calls.{lookAt, pageInto, Call, postOf, turnTo, withdrawal, asks}
 use Rattle.ledger.specs.Tells.{read2}
 use Rattle.journal.specs.Replies.{taken}
@@ -20,7 +21,7 @@ abbrev pub HasRecord : Call → Type 0
 HasRecord (postOf s) = Unit {0}
 HasRecord (turnTo m) = Unit {0}
 HasRecord withdrawal = ⊥
-HasRecord (asks (lookAt w y)) = Unit {0}
+HasRecord (asks (lookAt w v y)) = Unit {0}
 HasRecord (asks (pageInto w l)) = ⊥
 
 -- x stands at the front of s, y with more bytes behind s; no record there has more bytes than a post's
@@ -108,7 +109,7 @@ front-stands (kind ∷ s) t =
     (record-stands (kind ∷ s) t 3 3 _ _ (omega arith) (omega arith) tt (λ i. (refl, ap turnTo (same i))))
     (choose (eqb kind 0x4C)
     (record-stands (kind ∷ s) t 2 2 _ _ (omega arith) (omega arith) tt
-    (λ i. (refl, ap (λ (y : ℕ). asks (lookAt plain y)) (List·getD-append (kind ∷ s) t 0 1 i))))
+    (λ i. (refl, ap (λ (y : ℕ). asks (lookAt plain factor y)) (List·getD-append (kind ∷ s) t 0 1 i))))
     (unknown-stands (kind ∷ s)))))
 
 -- what is cut is shorter than the longest record, as its bytes are bytes

@@ -73,7 +73,7 @@ strange-front : (b : Book) (x : Front) → ((c : Call) (n : ℕ) → x ≡ whole
 strange-front b (whole (postOf s) n) h = refl
 strange-front b (whole (turnTo m) n) h = refl
 strange-front b (whole withdrawal n) h = absurd (h withdrawal n refl)
-strange-front b (whole (asks (lookAt w y)) n) h = refl
+strange-front b (whole (asks (lookAt w v y)) n) h = refl
 strange-front b (whole (asks (pageInto w l)) n) h = absurd (h (asks (pageInto w l)) n refl)
 strange-front b cut h = refl
 strange-front b unknown h = refl

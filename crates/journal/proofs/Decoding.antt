@@ -9,6 +9,7 @@ use lib.ListN.{length, getD, take, drop, length-drop}
 use lib.Seq.{take-all, drop-drop}
 use Rattle.method.specs.Units.{plain}
 use Rattle.ledger.specs.Book.{Book, fresh}
+use Rattle.ledger.specs.Answers.{factor}
 use Rattle.ledger.specs.Calls.{Call, postOf, turnTo, withdrawal, lookAt, asks, run, runFrom}
 use Rattle.ledger.specs.Tells.{read2}
 use Rattle.book.specs.Views.{asBook}
@@ -37,7 +38,7 @@ unfolding deskFront
 desk-front-some s =
     let post = record-some s (sheetAt + sheetLength s) (postOf (sheetIn s)) (omega arith) in
     let turn = record-some s 3 (turnTo (read2 s 1)) (omega arith) in
-    let look = record-some s 2 (asks (lookAt plain (getD s 1 0))) (omega arith) in
+    let look = record-some s 2 (asks (lookAt plain factor (getD s 1 0))) (omega arith) in
     let look? = either (lookFront s) unknown (eqb (getD s 0 0) 0x4C) look tt in
     let turn? = either (turnFront s) _ (eqb (getD s 0 0) 0x4D) turn look? in
     let post? = either (postFront s) _ (eqb (getD s 0 0) 0x50) post turn? in

@@ -8,6 +8,7 @@ use lib.ListN.{length, length-append}
 use lib.Seq.{take-at, drop-append-seam}
 use borrow.Author.Tests.{le-leb}
 use Rattle.method.specs.Units.{plain, adjusted}
+use Rattle.ledger.specs.Answers.{factor, sum}
 use Rattle.ledger.specs.Calls.{Call, postOf, turnTo, withdrawal, lookAt, pageInto, asks}
 use Rattle.ledger.proofs.PageLaws.{two-bytes}
 use Rattle.journal.specs.Journal.{whole, recordOf, deskFront, front, decodeFrom, decode, encoded, encode, AreBytes, Fits, AllFit}
@@ -22,8 +23,9 @@ unfolding encoded
 some-bytes (postOf s) h = omega arith
 some-bytes (turnTo m) h = omega arith
 some-bytes withdrawal h = omega arith
-some-bytes (asks (lookAt plain y)) h = omega arith
-some-bytes (asks (lookAt adjusted y)) h = absurd h
+some-bytes (asks (lookAt plain factor y)) h = omega arith
+some-bytes (asks (lookAt plain sum y)) h = absurd h
+some-bytes (asks (lookAt adjusted v y)) h = absurd h
 some-bytes (asks (pageInto w l)) h = absurd h
 
 reads-back : (c : Call) (rest : List ℕ) → Fits c → front (encoded c ++ rest) ≡ whole c (length (encoded c))
@@ -35,9 +37,10 @@ reads-back (postOf s) rest h =
 reads-back (turnTo m) rest h =
     rw (eqb·suc-zero (suc (suc (length rest))), two-bytes m h) (record-read (encoded (turnTo m) ++ rest) 3 (turnTo m) (omega arith))
 reads-back withdrawal rest h = record-read (encoded withdrawal ++ rest) 1 withdrawal (omega arith)
-reads-back (asks (lookAt plain y)) rest h =
-    rw (eqb·suc-zero (suc (length rest))) (record-read (encoded (asks (lookAt plain y)) ++ rest) 2 (asks (lookAt plain y)) (omega arith))
-reads-back (asks (lookAt adjusted y)) rest h = absurd h
+reads-back (asks (lookAt plain factor y)) rest h =
+    rw (eqb·suc-zero (suc (length rest))) (record-read (encoded (asks (lookAt plain factor y)) ++ rest) 2 (asks (lookAt plain factor y)) (omega arith))
+reads-back (asks (lookAt plain sum y)) rest h = absurd h
+reads-back (asks (lookAt adjusted v y)) rest h = absurd h
 reads-back (asks (pageInto w l)) rest h = absurd h
 
 reads-all : (most : ℕ) (cs : List Call) → AllFit cs → length (encode cs) ≤ most → decodeFrom most (encode cs) ≡ cs
@@ -63,8 +66,9 @@ unfolding encoded
 encoded-bytes (postOf s) h = (omega arith, (omega arith, (omega arith, h .1)))
 encoded-bytes (turnTo m) h = (omega arith, (omega arith, (omega arith, tt)))
 encoded-bytes withdrawal h = (omega arith, tt)
-encoded-bytes (asks (lookAt plain y)) h = (omega arith, (h, tt))
-encoded-bytes (asks (lookAt adjusted y)) h = absurd h
+encoded-bytes (asks (lookAt plain factor y)) h = (omega arith, (h, tt))
+encoded-bytes (asks (lookAt plain sum y)) h = absurd h
+encoded-bytes (asks (lookAt adjusted v y)) h = absurd h
 encoded-bytes (asks (pageInto w l)) h = absurd h
 
 pub encode-bytes : (cs : List Call) → AllFit cs → AreBytes (encode cs)

@@ -2,11 +2,12 @@
 use mathlib.Core.Path.{_≡_, refl}
 use mathlib.Core.List.{[], _∷_}
 use Rattle.method.specs.Units.{plain}
+use Rattle.ledger.specs.Answers.{factor}
 use Rattle.ledger.specs.Calls.{postOf, turnTo, withdrawal, lookAt, asks}
 use Rattle.journal.specs.Journal.{cut, unknown, deskFront, front, decodeFrom, decode}
 
 -- a turn to month 2 × 256 + 1, a post of two bytes, a look-up of year 150
-day : decode (0x4D ∷ 2 ∷ 1 ∷ 0x50 ∷ 0 ∷ 2 ∷ 7 ∷ 8 ∷ 0x4C ∷ 150 ∷ []) ≡ turnTo 513 ∷ postOf (7 ∷ 8 ∷ []) ∷ asks (lookAt plain 150) ∷ []
+day : decode (0x4D ∷ 2 ∷ 1 ∷ 0x50 ∷ 0 ∷ 2 ∷ 7 ∷ 8 ∷ 0x4C ∷ 150 ∷ []) ≡ turnTo 513 ∷ postOf (7 ∷ 8 ∷ []) ∷ asks (lookAt plain factor 150) ∷ []
 unfolding decode decodeFrom front deskFront
 day = refl
 

@@ -9,8 +9,8 @@ use lib.ListN.{length, getD}
 use borrow.Author.Tests.{le-leb, lt-leb, leb-true, leb-false, eq-eqb, ne-eqb}
 use Rattle.method.proofs.Outcome.{split}
 use Rattle.method.specs.Units.{plain}
-use Rattle.ledger.specs.Answers as answer
 use Rattle.ledger.specs.Book as ledger
+use Rattle.ledger.specs.Answers.{factor}
 use Rattle.ledger.specs.Book.{post, turn, withdraw, lookUp}
 use Rattle.ledger.specs.Calls.{Call, postOf, turnTo, withdrawal}
 use Rattle.grounds.specs.declared.Verdict.{Verdict}
@@ -103,8 +103,8 @@ withdrawal-made b s n room none zeros r e =
     })
 
 pub look-made : (book : Book) (s : List ℕ) → 2 ≤ length s → (year : ℕ) → year ≡ getD s 1 0 → (r : Looked) →
-    asOutcome (r .verdict) (asFinding (r .finding)) ≡ lookUp (asBook book) plain year →
-    asFinding (r .finding) ≡ resultOr noFinding (lookUp (asBook book) plain year) →
+    asOutcome (r .verdict) (asFinding (r .finding)) ≡ lookUp (asBook book) plain factor year →
+    asFinding (r .finding) ≡ resultOr noFinding (lookUp (asBook book) plain factor year) →
     MakesFront (asBook book) s (lookFront s)
     (record { reply = LookedAt year; verdict = r .verdict; month = 0; finding = r .finding; taken = 2; book = book })
 look-made book s room year y r e f =

@@ -6,6 +6,7 @@ use lib.Dec.{leb, eqb}
 use lib.ListN.{length, getD, take, drop}
 use Rattle.method.specs.Units.{plain, adjusted}
 use Rattle.method.specs.Bytes.{bytes2}
+use Rattle.ledger.specs.Answers.{factor, sum}
 use Rattle.ledger.specs.Calls.{lookAt, pageInto, Call, postOf, turnTo, withdrawal, asks}
 use Rattle.ledger.specs.Tells.{read2}
 
@@ -43,7 +44,7 @@ turnFront s = recordOf s 3 (turnTo (read2 s 1))
 
 -- a year in one
 abbrev pub lookFront : List ℕ → Front
-lookFront s = recordOf s 2 (asks (lookAt plain (getD s 1 0)))
+lookFront s = recordOf s 2 (asks (lookAt plain factor (getD s 1 0)))
 
 -- the three that the desk knows
 unfoldable pub deskFront : List ℕ → Front
@@ -74,14 +75,15 @@ decodeFrom (suc most) s = andThen (front s) (decodeFrom most) s
 unfoldable pub decode : List ℕ → List Call
 decode s = decodeFrom (length s) s
 
--- ---- the other way: a call as bytes. A page and a look-up of the adjusted curve, which leave the book as it is, are not written
+-- ---- the other way: a call as bytes. A page, a sum and a look-up of the adjusted curve, which leave the book as it is, are not written
 
 unfoldable pub encoded : Call → List ℕ
 encoded (postOf s) = 0x50 ∷ bytes2 (length s) ++ s
 encoded (turnTo m) = 0x4D ∷ bytes2 m
 encoded withdrawal = 0x57 ∷ []
-encoded (asks (lookAt plain y)) = 0x4C ∷ y ∷ []
-encoded (asks (lookAt adjusted y)) = []
+encoded (asks (lookAt plain factor y)) = 0x4C ∷ y ∷ []
+encoded (asks (lookAt plain sum y)) = []
+encoded (asks (lookAt adjusted v y)) = []
 encoded (asks (pageInto w l)) = []
 
 abbrev pub encode : List Call → List ℕ
@@ -98,8 +100,9 @@ abbrev pub Fits : Call → Type 0
 Fits (postOf s) = (length s < 65_536) × AreBytes s
 Fits (turnTo m) = m < 65_536
 Fits withdrawal = Unit {0}
-Fits (asks (lookAt plain y)) = y < 256
-Fits (asks (lookAt adjusted y)) = ⊥
+Fits (asks (lookAt plain factor y)) = y < 256
+Fits (asks (lookAt plain sum y)) = ⊥
+Fits (asks (lookAt adjusted v y)) = ⊥
 Fits (asks (pageInto w l)) = ⊥
 
 abbrev pub AllFit : List Call → Type 0

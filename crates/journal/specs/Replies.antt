@@ -20,7 +20,7 @@ abbrev pub replyTo : Book → Front → Reply
 replyTo b (whole (postOf s) n) = posted (post b s .answer)
 replyTo b (whole (turnTo m) n) = turned (turn b m .answer)
 replyTo b (whole withdrawal n) = withdrawn (withdraw b .answer)
-replyTo b (whole (asks (lookAt w y)) n) = looked y (lookUp b w y)
+replyTo b (whole (asks (lookAt w v y)) n) = looked y (lookUp b w v y)
 replyTo b (whole (asks (pageInto w l)) n) = notKnown
 replyTo b cut = cutShort
 replyTo b unknown = notKnown

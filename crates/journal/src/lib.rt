@@ -2,6 +2,7 @@
 use big_endian::two_bytes;
 use book::Book;
 use book::Finding;
+use book::Wanted;
 use book::Which;
 use grounds::Verdict;
 ghost use mathlib.Core.Path.{_≡_};
@@ -121,7 +122,7 @@ pub fn ask(book: Book, rest: &[u8]) -> Asked
         return not_asked();
     }
     let year = big_endian::wide(rest[1]);
-    let looked = book::look_up(book, Which::Plain, year);
+    let looked = book::look_up(book, Which::Plain, Wanted::Factor, year);
     let verdict = looked.verdict;
     let finding = looked.finding;
     Asked {

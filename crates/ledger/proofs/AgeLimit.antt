@@ -10,18 +10,19 @@ use borrow.Author.Tests.{leb-true, le-leb}
 use lib.Dec.{leb}
 use lib.ListN.{length}
 use Rattle.method.specs.Units.{Which, Pair, SignedPair}
-use Rattle.method.specs.Grounds.{yearOutside, bufferTooShort, ageAboveLimit, noHighRate, refused, done, _>>=_, demand}
+use Rattle.method.specs.Grounds.{yearOutside, bufferTooShort, ageAboveLimit, noHighRate, Outcome, refused, done, _>>=_, demand}
 use Rattle.method.specs.Curve.{Curve, Held, none, some}
 use Rattle.method.proofs.Outcome.{split, bind-done, demand-done, done-injective, refused-not-done, both-true}
 use Rattle.zero_rates.specs.Rates.{greatestMultiplier, reaches, zeroRates}
-use Rattle.ledger.specs.Answers.{Finding, answerNumber}
+use Rattle.ledger.specs.Answers.{Wanted, factor, sum, Finding, answerNumber}
+use Rattle.ledger.specs.Sums.{Sums}
 use Rattle.ledger.specs.Book.{Book, postOutcome, post, withTold, turnOutcome, turn, withdraw}
-use Rattle.ledger.specs.Book.{named, young, openCurve, yearInside, bandAt, lookIn, pageOutcome, pagedBy, pageIn}
+use Rattle.ledger.specs.Book.{named, sumsNamed, young, openCurve, yearInside, bandAt, lookIn, shown, pageOutcome, pagedBy, pageIn}
 use Rattle.ledger.specs.Calls.{Question, lookAt, pageInto, Call, asks, answered, answerOf}
 use Rattle.ledger.specs.Count.{Count, count}
 use Rattle.ledger.specs.Demands.{Closes, TurnCloses, OnlyCloses}
 use Rattle.ledger.proofs.Count.{bookOf}
-use Rattle.ledger.proofs.Asked.{closed-old, look-closed}
+use Rattle.ledger.proofs.Asked.{shown-refused, shown-number, closed-old, look-closed}
 use Rattle.ledger.proofs.Theorem.{run-is, run-sound}
 use Rattle.ledger.proofs.FirstGround.{posted-answer, turned-answer, withdrawn}
 
@@ -54,14 +55,22 @@ shown-by s told limit y f e =
       month-shown = ap (λ (g : Finding). g .month) (sym (done-injective (rated .2)));
     }
 
-turn-closes-it : (b : Book) (w : Which) (y m : ℕ) (f : Finding) → Shown (named w (b .standing)) y f → b .told ≤ m → m ≤ 2_399 →
-    f .month + b .ageLimit < m → Closes b w y m
+-- whatever it asked for, a factor of this month was found
+was-shown : (v : Wanted) (k : Held Sums) (y : ℕ) (o : Outcome Finding) {f : Finding} → shown v k y o ≡ done f →
+    (g : Finding) × (o ≡ done g) × (f .month ≡ g .month)
+was-shown factor k y o {f} e = (f, e, refl)
+was-shown sum k y o e = let found = bind-done o _ e in (found .0, found .1, ap (λ (g : Finding). g .month) (sym (done-injective (found .2))))
+
+turn-closes-it : (b : Book) (w : Which) (v : Wanted) (y m : ℕ) (f : Finding) → Shown (named w (b .standing)) y f → b .told ≤ m → m ≤ 2_399 →
+    f .month + b .ageLimit < m → Closes b w v y m
 unfolding turn turnOutcome
-turn-closes-it b w y m f s to last older =
+turn-closes-it b w v y m f s to last older =
     record {
       accepted = rw turned;
       still-held = rw turned;
-      closed = rw turned (look-closed (named w (b .standing)) m (b .ageLimit) y too-old (s .from-1) (s .to-150));
+      closed =
+          rw turned
+          (shown-refused v (sumsNamed w (b .standing)) y (look-closed (named w (b .standing)) m (b .ageLimit) y too-old (s .from-1) (s .to-150)));
     }
   where
     turned : turn b m ≡ record { book = withTold b m; answer = done m }
@@ -71,8 +80,10 @@ turn-closes-it b w y m f s to last older =
     too-old = closed-old (named w (b .standing)) m (b .ageLimit) (s .curve) (s .stands) (omega (arith, older, s .month-shown))
 
 pub turn-closes : (b : Book) → TurnCloses b
-turn-closes b w y m f e to last older =
-    turn-closes-it b w y m f (shown-by (named w (b .standing)) (b .told) (b .ageLimit) y f e) to last older
+turn-closes b w v y m f e to last older =
+    let k = named w (b .standing) in
+    let (g, found, month) = was-shown v (sumsNamed w (b .standing)) y (lookIn k (b .told) (b .ageLimit) y) e in
+    turn-closes-it b w v y m g (shown-by k (b .told) (b .ageLimit) y g found) to last (rw month at older)
 
 -- ---- and the limit does nothing else
 
@@ -93,6 +104,16 @@ module _ (told : ℕ) (m : told ≤ 2_399) where
           (answerNumber (lookIn s told limit y) ≡ 16) ⊎ (lookIn s told limit y ≡ lookIn s told 2_399 y)
       go inside (inl e) = inl (rw (inside, e))
       go inside (inr e) = inr (rw e)
+
+  -- whatever is asked for
+  shown-closed-or-same : (s : Held Curve) (u : Held Sums) (limit : ℕ) (v : Wanted) (y : ℕ) →
+      (answerNumber (shown v u y (lookIn s told limit y)) ≡ 16) ⊎ (shown v u y (lookIn s told limit y) ≡ shown v u y (lookIn s told 2_399 y))
+  shown-closed-or-same s u limit v y = go (look-closed-or-same s limit y)
+    where
+      go : (answerNumber (lookIn s told limit y) ≡ 16) ⊎ (lookIn s told limit y ≡ lookIn s told 2_399 y) →
+          (answerNumber (shown v u y (lookIn s told limit y)) ≡ 16) ⊎ (shown v u y (lookIn s told limit y) ≡ shown v u y (lookIn s told 2_399 y))
+      go (inl e) = inl (shown-number v u y (lookIn s told limit y) ∙ e)
+      go (inr e) = inr (ap (shown v u y) e)
 
   page-closed-or-same :
       (s : Held Curve) (limit : ℕ) (l : List ℕ) → (answerNumber (pageIn s told limit l .answer) ≡ 16) ⊎ (pageIn s told limit l ≡ pageIn s told 2_399 l)
@@ -157,11 +178,14 @@ same-withdrawals-of limit c = go (bookOf limit c .history .below)
 
 question-closed-or-same : (limit : ℕ) (c : Count) → c .told ≤ 2_399 → (q : Question) →
     (answerOf (bookOf limit c) (asks q) .number ≡ 16) ⊎ (answered (bookOf limit c) q ≡ answered (bookOf 2_399 c) q)
-question-closed-or-same limit c m (lookAt w y) = look-closed-or-same (c .told) m _ limit y
+question-closed-or-same limit c m (lookAt w v y) =
+    shown-closed-or-same (c .told) m (named w (bookOf limit c .standing)) (sumsNamed w (bookOf limit c .standing)) limit v y
 question-closed-or-same limit c m (pageInto w l) = page-closed-or-same (c .told) m _ limit l
 
 question-never-closed : (c : Count) → c .told ≤ 2_399 → (q : Question) → answerOf (bookOf 2_399 c) (asks q) .number ≡ 16 → ⊥
-question-never-closed c m (lookAt w y) e = look-never-closed (c .told) m _ y e
+question-never-closed c m (lookAt w v y) e =
+    let k = named w (bookOf 2_399 c .standing) in
+    look-never-closed (c .told) m k y (sym (shown-number v (sumsNamed w (bookOf 2_399 c .standing)) y (lookIn k (c .told) 2_399 y)) ∙ e)
 question-never-closed c m (pageInto w l) e = page-never-closed (c .told) m _ l e
 
 pub only-closes : (limit : ℕ) (cs : List Call) → OnlyCloses limit cs

@@ -14,9 +14,10 @@ use Rattle.method.specs.Curve.{Curve, Held, none, some}
 use Rattle.method.specs.Enclosure.{lowOf, highOf}
 use Rattle.method.proofs.Outcome.{split}
 use Rattle.zero_rates.specs.Rates.{zeroRates}
-use Rattle.ledger.specs.Answers.{answerNumber, finding}
+use Rattle.ledger.specs.Answers.{Wanted, factor, sum, Finding, answerNumber, finding}
+use Rattle.ledger.specs.Sums.{Sums}
 use Rattle.ledger.specs.Page.{pageBytes}
-use Rattle.ledger.specs.Book.{Book, Paged, named, age, young, openCurve, bandAt, lookIn, pageOutcome, pagedBy, pageIn, page}
+use Rattle.ledger.specs.Book.{Book, Paged, named, age, young, openCurve, bandAt, lookIn, shown, pageOutcome, pagedBy, pageIn, page}
 use Rattle.ledger.specs.Tells.{PageWritten}
 use Rattle.ledger.specs.Demands.{CurveFits}
 use Rattle.ledger.proofs.PageLaws.{page-length, page-read}
@@ -28,6 +29,22 @@ refusal-kept p q = let z : _≡_ {A = ℕ} 0 1 = cc in omega arith
 -- two grounds of other numbers
 pub other-ground : {A : Type 0} {a : Outcome A} {g h : Ground} → a ≡ refused g → a ≡ refused h → (numberOf g ≡ numberOf h → ⊥) → ⊥
 other-ground {a} p q n = n (sym (ap answerNumber p) ∙ ap answerNumber q)
+
+-- ---- whatever is asked for, a look-up is refused on the same ground
+
+pub shown-refused : (v : Wanted) (k : Held Sums) (y : ℕ) {o : Outcome Finding} {g : Ground} → o ≡ refused g → shown v k y o ≡ refused g
+shown-refused factor k y e = e
+shown-refused sum k y e = ap (shown sum k y) e
+
+pub was-refused : (v : Wanted) (k : Held Sums) (y : ℕ) (o : Outcome Finding) {g : Ground} → shown v k y o ≡ refused g → o ≡ refused g
+was-refused factor k y o e = e
+was-refused sum k y (refused x) e = e
+was-refused sum k y (done f) e = absurd (refusal-kept {a = done _} refl e)
+
+pub shown-number : (v : Wanted) (k : Held Sums) (y : ℕ) (o : Outcome Finding) → answerNumber (shown v k y o) ≡ answerNumber o
+shown-number factor k y o = refl
+shown-number sum k y (refused g) = refl
+shown-number sum k y (done f) = refl
 
 module _ (s : Held Curve) (told limit : ℕ) where
   -- ---- open or closed

@@ -2,7 +2,7 @@
 use mathlib.Core.Path.{_≡_, refl, ap, sym, subst, _∙_}
 use mathlib.Core.Bool.{Bool, true, false, _&&_}
 use mathlib.Core.List.{List, [], _∷_}
-use Prim.Native.Nat.{ℕ, zero, suc, _+_, _-_, _≤_, min}
+use Prim.Native.Nat.{ℕ, zero, suc, _-_, _≤_}
 use native.Mathlib.Omega.{arith}
 use borrow.Author.Tests.{leb-true, lt-ltb}
 use lib.Dec.{T, leb, ltb}
@@ -14,13 +14,15 @@ use Rattle.method.specs.Curve.{Curve, Held, none, some, Curves, curveNamed, adj
 use Rattle.method.proofs.Enclosure.{Worked, worked, enclosure}
 use Rattle.method.proofs.Reading.{read-passes}
 use Rattle.method.proofs.Outcome.{split, bind-done, demand-done, done-injective}
+use Rattle.ledger.specs.Sums.{summed}
 use Rattle.ledger.specs.Book.{Book, notBefore, postOutcome, post, turnOutcome, turn, standingOf, withdraw}
 use Rattle.ledger.specs.Calls.{Call, postOf, turnTo, withdrawal, asks, after, runFrom}
 use Rattle.ledger.specs.Count.{Count, latest, lastSheet, monthOf, hasAdjustment, carries, isDone}
 use Rattle.ledger.specs.Count.{works, inOrder, acceptsSheet, acceptsMonth, acceptsWithdrawal, counted, countFrom, typed}
-use Rattle.ledger.specs.Demands.{seen}
+use Rattle.ledger.specs.Demands.{seen, withSums}
 use Rattle.ledger.proofs.Typed.{typed-is}
 use Rattle.ledger.proofs.Ways.{historyOf, posted-history}
+use Rattle.ledger.proofs.Sums.{sums-are, held-sums-are}
 
 -- ---- a sheet that was read has the numbers of its bytes
 
@@ -144,6 +146,15 @@ curve-month w s {cs} e c named = enclosure w s cs e c named .month-kept ∙ ap (
 
 pub answer-month : (s : List ℕ) {cs : Curves} → answer s ≡ done cs → cs .plain .month ≡ monthOf s
 answer-month s {cs} e = curve-month plain s e (cs .plain) refl
+
+-- each of them has 150 years, and so its sums are those of years 1 to 150
+pub worked-sums : (s : List ℕ) {cs : Curves} → answer s ≡ done cs → summed cs ≡ withSums cs
+worked-sums s {cs} e =
+    let of-plain = years plain (cs .plain) refl in
+    rw (sums-are (cs .plain) (of-plain .0) (of-plain .1), held-sums-are (cs .adjusted) (years adjusted))
+  where
+    years : (w : Which) (c : Curve) → curveNamed w cs ≡ some c → (length (c .lows) ≡ 150) × (length (c .highs) ≡ 150)
+    years w c named = let holds = enclosure w s cs e c named in (holds .years-of-lows, holds .years-of-highs)
 
 -- ---- the curve that is named
 

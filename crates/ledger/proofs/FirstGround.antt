@@ -13,21 +13,22 @@ use Rattle.method.specs.Grounds.{Ground, wrongLength, wrongRecord, outOfRange, 
 use Rattle.method.specs.Grounds.{monthBeforeTold, yearOutside, noCurve, bufferTooShort, ageAboveLimit, noHighRate, noPostLeft}
 use Rattle.method.specs.Grounds.{Outcome, refused, done, _>>=_, demand}
 use Rattle.method.specs.Sheet.{Numbers, readSheet, sheetNumbers, layoutOf, sizeOf, slotsOf, firstFailure, rightRecord, inRange, total}
-use Rattle.method.specs.Units.{Which}
+use Rattle.method.specs.Units.{Which, SignedPair}
 use Rattle.method.specs.Curve.{Curve, Held, none, some, Curves, curvesOf}
 use Rattle.method.specs.Enclosure.{lowOf}
 use Rattle.method.proofs.Outcome.{split}
 use Rattle.method.proofs.Layouts.{any-length}
 use Rattle.zero_rates.specs.Rates.{greatestMultiplier, compound, reaches, ratesOf, zeroRates}
 use Rattle.zero_rates.proofs.Compounding.{grown-is}
-use Rattle.ledger.specs.Answers.{finding}
+use Rattle.ledger.specs.Answers.{Wanted, factor, sum, Finding, finding}
+use Rattle.ledger.specs.Sums.{Sums}
 use Rattle.ledger.specs.Page.{pageBytes}
 use Rattle.ledger.specs.History.{wayBack}
 use Rattle.ledger.specs.Book.{Standing, Book, Booked, booked, notBefore, postOutcome, withCurves, post, turnOutcome, withTold, turn}
-use Rattle.ledger.specs.Book.{withHistory, withdraw, named, openCurve, age, bandAt, lookIn, lookUp, pageOutcome, pagedBy, page}
-use Rattle.ledger.specs.Demands.{Applies, when, first, standsAfter, vacant, tooOld, beyondReach, foundIn, monthIn, Demand1}
+use Rattle.ledger.specs.Book.{withHistory, withdraw, named, sumsNamed, openCurve, age, bandAt, lookIn, shown, lookUp, pageOutcome, pagedBy, page}
+use Rattle.ledger.specs.Demands.{Applies, when, first, standsAfter, vacant, tooOld, beyondReach, shownIn, foundIn, monthIn, Demand1}
 use Rattle.ledger.specs.Demands.{postGrounds, turnGrounds, withdrawGrounds, lookGrounds, pageGrounds, turnedTo}
-use Rattle.ledger.proofs.Asked.{refusal-kept, page-refused}
+use Rattle.ledger.proofs.Asked.{refusal-kept, shown-refused, page-refused}
 
 -- a demand in its turn is a ground that applies where its test fails
 demand-first : {A : Type 0} (t : Bool) (g : Ground) (x : Outcome A) (rest : List Applies) (o : Outcome A) → x ≡ first rest o →
@@ -57,7 +58,7 @@ not-at-most t m = split (leb m t) (λ q. rw (q, le-ltb t m (leb-true m t q))) (�
 
 before-standing : (k : Standing) (m : ℕ) → standsAfter k m ≡ not (notBefore k m)
 before-standing none m = refl
-before-standing (some c) m = not-at-most m (c .plain .month)
+before-standing (some k) m = not-at-most m (k .curves .plain .month)
 
 no-year : (y : ℕ) → eqb y 0 ≡ not (leb 1 y)
 no-year zero = refl
@@ -110,45 +111,57 @@ not-reached : (c : Curve) (y : ℕ) → beyondReach (some c) y ≡ not (reaches 
 unfolding reaches
 not-reached c y = rw (grown-is greatestMultiplier (pos 100_000) refl false y) (not-at-most (lowOf c y * compound false greatestMultiplier y) (U * U))
 
+-- what is asked for, in place of the factor
+found-shown : (v : Wanted) (k : Held Sums) (c : Curve) (y : ℕ) (r : SignedPair) (m a : ℕ) →
+    shown v k y (done (finding (bandAt c y) r m a)) ≡ done (finding (shownIn v c k y) r m a)
+found-shown factor k c y r m a = refl
+found-shown sum none c y r m a = refl
+found-shown sum (some u) c y r m a = refl
+
 -- 17, then what is found
-rated-first : (c : Curve) (told y : ℕ) →
-    (zeroRates y (bandAt c y) >>= (λ r. done (finding (bandAt c y) r (c .month) (age told c))))
-    ≡ first (when (beyondReach (some c) y) noHighRate ∷ []) (done (foundIn told (some c) y))
-rated-first c told y = rw (not-reached c y) (by-test (reaches y (lowOf c y) greatestMultiplier))
+rated-first : (v : Wanted) (u : Held Sums) (c : Curve) (told y : ℕ) →
+    shown v u y (zeroRates y (bandAt c y) >>= (λ r. done (finding (bandAt c y) r (c .month) (age told c))))
+    ≡ first (when (beyondReach (some c) y) noHighRate ∷ []) (done (foundIn v told (some c) u y))
+rated-first v u c told y = rw (not-reached c y) (by-test (reaches y (lowOf c y) greatestMultiplier))
   where
     by-test : (reached : Bool) →
+        shown v u y
         ((demand reached noHighRate >>= (λ _. done (ratesOf y (bandAt c y)))) >>= (λ r. done (finding (bandAt c y) r (c .month) (age told c))))
-        ≡ first (when (not reached) noHighRate ∷ []) (done (foundIn told (some c) y))
-    by-test true = refl
-    by-test false = refl
+        ≡ first (when (not reached) noHighRate ∷ []) (done (foundIn v told (some c) u y))
+    by-test true = found-shown v u c y (ratesOf y (bandAt c y)) (c .month) (age told c)
+    by-test false = shown-refused v u y refl
 
 -- 14 and 16 before them
-open-first : (k : Held Curve) (told limit y : ℕ) →
-    (openCurve k told limit >>= (λ c. zeroRates y (bandAt c y) >>= (λ r. done (finding (bandAt c y) r (c .month) (age told c)))))
-    ≡ first (when (vacant k) noCurve ∷ when (tooOld k told limit) ageAboveLimit ∷ when (beyondReach k y) noHighRate ∷ []) (done (foundIn told k y))
-open-first none told limit y = refl
-open-first (some c) told limit y = rw (not-at-most limit (age told c)) (by-test (leb (age told c) limit))
+open-first : (v : Wanted) (u : Held Sums) (k : Held Curve) (told limit y : ℕ) →
+    shown v u y (openCurve k told limit >>= (λ c. zeroRates y (bandAt c y) >>= (λ r. done (finding (bandAt c y) r (c .month) (age told c)))))
+    ≡ first (when (vacant k) noCurve ∷ when (tooOld k told limit) ageAboveLimit ∷ when (beyondReach k y) noHighRate ∷ []) (done (foundIn v told k u y))
+open-first v u none told limit y = shown-refused v u y refl
+open-first v u (some c) told limit y = rw (not-at-most limit (age told c)) (by-test (leb (age told c) limit))
   where
     by-test : (young : Bool) →
+        shown v u y
         ((demand young ageAboveLimit >>= (λ _. done c))
         >>= (λ c. zeroRates y (bandAt c y) >>= (λ r. done (finding (bandAt c y) r (c .month) (age told c)))))
-        ≡ first (when (not young) ageAboveLimit ∷ when (beyondReach (some c) y) noHighRate ∷ []) (done (foundIn told (some c) y))
-    by-test true = rated-first c told y
-    by-test false = refl
+        ≡ first (when (not young) ageAboveLimit ∷ when (beyondReach (some c) y) noHighRate ∷ []) (done (foundIn v told (some c) u y))
+    by-test true = rated-first v u c told y
+    by-test false = shown-refused v u y refl
 
-look-first-is : (b : Book) (w : Which) (y : ℕ) → lookUp b w y ≡ first (lookGrounds b w y) (done (foundIn (b .told) (named w (b .standing)) y))
+-- 13 before these
+look-first-is : (b : Book) (w : Which) (v : Wanted) (y : ℕ) →
+    lookUp b w v y ≡ first (lookGrounds b w y) (done (foundIn v (b .told) (named w (b .standing)) (sumsNamed w (b .standing)) y))
 unfolding lookIn lookGrounds
-look-first-is b w y =
+look-first-is b w v y =
     let k = named w (b .standing) in
+    let u = sumsNamed w (b .standing) in
     let later = when (vacant k) noCurve ∷ when (tooOld k (b .told) (b .ageLimit)) ageAboveLimit ∷ when (beyondReach k y) noHighRate ∷ [] in
-    let found = done (foundIn (b .told) k y) in
-    rw (no-year y, not-at-most 150 y) (go _ (leb 1 y) (leb y 150) later found (open-first k (b .told) (b .ageLimit) y))
+    let found = done (foundIn v (b .told) k u y) in
+    rw (no-year y, not-at-most 150 y) (go u _ (leb 1 y) (leb y 150) later found (open-first v u k (b .told) (b .ageLimit) y))
   where
-    go : {A : Type 0} (o : Outcome A) (p q : Bool) (later : List Applies) (r : Outcome A) → o ≡ first later r →
-        (demand (p && q) yearOutside >>= (λ _. o)) ≡ first (when (not p) yearOutside ∷ when (not q) yearOutside ∷ later) r
-    go o true true later r e = e
-    go o true false later r e = refl
-    go o false q later r e = refl
+    go : (u : Held Sums) (o : Outcome Finding) (p q : Bool) (later : List Applies) (r : Outcome Finding) → shown v u y o ≡ first later r →
+        shown v u y (demand (p && q) yearOutside >>= (λ _. o)) ≡ first (when (not p) yearOutside ∷ when (not q) yearOutside ∷ later) r
+    go u o true true later r e = e
+    go u o true false later r e = shown-refused v u y refl
+    go u o false q later r e = shown-refused v u y refl
 
 abbrev over : Book → List ℕ → Curve → List ℕ
 over b l c = pageBytes (c .month) (age (b .told) c) (c .lows) (c .highs) ++ drop 1_505 l

@@ -1,6 +1,7 @@
 pub mod Typed
 pub mod PageLaws
 pub mod Ways
+pub mod Sums
 pub mod Count
 pub mod Asked
 pub mod Theorem

@@ -11,11 +11,12 @@ use Rattle.method.specs.Curve.{Curve, Held, none, some}
 use Rattle.method.proofs.Places.{place, bind-place, demand-place, read-place, curves-place}
 use Rattle.method.specs.Enclosure.{lowOf}
 use Rattle.zero_rates.specs.Rates.{greatestMultiplier, reaches, zeroRates}
-use Rattle.ledger.specs.Answers.{answerPlace}
+use Rattle.ledger.specs.Answers.{Wanted, factor, sum, Finding, answerPlace}
+use Rattle.ledger.specs.Sums.{Sums}
 use Rattle.ledger.specs.Page.{pageLength}
 use Rattle.ledger.specs.History.{wayBack}
 use Rattle.ledger.specs.Book.{Book, booked, notBefore, postOutcome, post, lastMonth, turnOutcome, turn, withdraw}
-use Rattle.ledger.specs.Book.{named, young, openCurve, yearInside, bandAt, lookIn, lookUp, pageOutcome, pagedBy, page}
+use Rattle.ledger.specs.Book.{named, young, openCurve, yearInside, bandAt, lookIn, shown, lookUp, pageOutcome, pagedBy, page}
 use Rattle.ledger.specs.Calls.{Call, postOf, turnTo, withdrawal, asks, lookAt, pageInto, answerOf}
 
 -- a refusal is answered as it is, and an accepted call at place 0
@@ -58,14 +59,22 @@ open-place : (s : Held Curve) (told limit : ℕ) → place (openCurve s told lim
 open-place none told limit = omega arith
 open-place (some c) told limit = demand-place (young c told limit) _ _ (omega arith) (omega arith)
 
-look-place : (b : Book) (w : Which) (y : ℕ) → answerPlace (lookUp b w y) ≤ 0
+look-in-place : (k : Held Curve) (told limit y : ℕ) → answerPlace (lookIn k told limit y) ≤ 0
 unfolding lookIn
-look-place b w y =
-    let k = named w (b .standing) in
+look-in-place k told limit y =
     demand-place (yearInside y) _ _ (omega arith)
-    (bind-place (openCurve k (b .told) (b .ageLimit)) _ (open-place k (b .told) (b .ageLimit))
+    (bind-place (openCurve k told limit) _ (open-place k told limit)
     λ c e. bind-place (zeroRates y (bandAt c y)) _ (demand-place (reaches y (lowOf c y) greatestMultiplier) _ _ (omega arith) (omega arith))
     λ r d. omega arith)
+
+-- a sum's is the factor's
+shown-place : (v : Wanted) (k : Held Sums) (y : ℕ) (o : Outcome Finding) → answerPlace o ≤ 0 → answerPlace (shown v k y o) ≤ 0
+shown-place factor k y o h = h
+shown-place sum k y (refused g) h = h
+shown-place sum k y (done f) h = h
+
+look-place : (b : Book) (w : Which) (v : Wanted) (y : ℕ) → answerPlace (lookUp b w v y) ≤ 0
+look-place b w v y = shown-place v _ y _ (look-in-place (named w (b .standing)) (b .told) (b .ageLimit) y)
 
 page-place : (b : Book) (w : Which) (l : List ℕ) → answerPlace (page b w l .answer) ≤ 0
 unfolding pageOutcome
@@ -79,5 +88,5 @@ pub answer-place : (b : Book) (c : Call) → answerOf b c .place ≤ 150
 answer-place b (postOf s) = post-place b s
 answer-place b (turnTo m) = omega (arith, turn-place b m)
 answer-place b withdrawal = omega (arith, withdraw-place b)
-answer-place b (asks (lookAt w y)) = omega (arith, look-place b w y)
+answer-place b (asks (lookAt w v y)) = omega (arith, look-place b w v y)
 answer-place b (asks (pageInto w l)) = omega (arith, page-place b w l)

@@ -10,18 +10,20 @@ use Rattle.method.specs.Grounds.{afterToldMonth, beforeStandingCurve, Outcome, 
 use Rattle.method.specs.Sheet.{readSheet}
 use Rattle.method.specs.Curve.{Held, none, some, Curves, answer}
 use Rattle.method.proofs.Outcome.{bind-done, demand-done}
+use Rattle.ledger.specs.Sums.{Summed}
 use Rattle.ledger.specs.Book.{Standing, Book, booked, notBefore, postOutcome, withCurves, post, withdraw}
-use Rattle.ledger.specs.Demands.{holding, holdingPost, Accepted, Demand2}
+use Rattle.ledger.specs.Demands.{withSums, holding, holdingPost, Accepted, Demand2}
 use Rattle.ledger.proofs.Asked.{refusal-kept, page-of-book}
+use Rattle.ledger.proofs.Count.{outcome-answer, worked-sums}
 use Rattle.ledger.proofs.FirstGround.{withdrawn}
 
-not-before : (k : Standing) (m : ℕ) → ((c : Curves) → k ≡ some c → c .plain .month ≤ m) → notBefore k m ≡ true
+not-before : (k : Standing) (m : ℕ) → ((c : Summed) → k ≡ some c → c .curves .plain .month ≤ m) → notBefore k m ≡ true
 not-before none m h = refl
-not-before (some c) m h = le-leb (c .plain .month) m (h c refl)
+not-before (some c) m h = le-leb (c .curves .plain .month) m (h c refl)
 
-before-none : (k : Standing) (m : ℕ) → notBefore k m ≡ true → (c : Curves) → k ≡ some c → c .plain .month ≤ m
+before-none : (k : Standing) (m : ℕ) → notBefore k m ≡ true → (c : Summed) → k ≡ some c → c .curves .plain .month ≤ m
 before-none none m t c e = let z : _≡_ {A = ℕ} 0 1 = cc in absurd (omega arith)
-before-none (some d) m t c e = let same : d ≡ c = cc e in rw (← same) (leb-true (d .plain .month) m t)
+before-none (some d) m t c e = let same : d ≡ c = cc e in rw (← same) (leb-true (d .curves .plain .month) m t)
 
 accepts-it : (b : Book) (s : List ℕ) (c : Curves) → Accepted b s c → postOutcome b s ≡ done c
 unfolding postOutcome
@@ -52,12 +54,12 @@ accepted-only b s m e = go (postOutcome b s) refl e
     go : (o : Outcome Curves) → postOutcome b s ≡ o → booked b (withCurves b s) (λ c. c .plain .month) o .answer ≡ done m →
         (c : Curves) × Accepted b s c × (booked b (withCurves b s) (λ c. c .plain .month) (postOutcome b s) .book ≡ holdingPost b s c) × (c .plain .month ≡ m)
     go (refused g) p a = absurd (refusal-kept a refl)
-    go (done c) p a = (c, was-accepted b s c p, rw p, cc a)
+    go (done c) p a = (c, was-accepted b s c p, rw (p, worked-sums s (outcome-answer b s p)), cc a)
 
 brought-back : (b : Book) (s : List ℕ) (c : Curves) (hs : List (Held (List ℕ))) → b .history .below ≡ some s ∷ hs → answer s ≡ done c →
-    withdraw b ≡ record { book = holding b (some c) (some s) hs; answer = done tt }
+    withdraw b ≡ record { book = holding b (some (withSums c)) (some s) hs; answer = done tt }
 unfolding withdraw
-brought-back b s c hs e worked = ap (withdrawn b) e ∙ rw worked
+brought-back b s c hs e worked = ap (withdrawn b) e ∙ rw (worked, worked-sums s worked)
 
 brought-none : (b : Book) (hs : List (Held (List ℕ))) → b .history .below ≡ none ∷ hs →
     withdraw b ≡ record { book = holding b none none hs; answer = done tt }
@@ -68,7 +70,7 @@ pub demand-2 : (b : Book) → Demand2 b
 unfolding post
 demand-2 b =
     record {
-      accepts = λ s c a. rw (accepts-it b s c a);
+      accepts = λ s c a. let posted = accepts-it b s c a in rw (posted, worked-sums s (outcome-answer b s posted));
       accepts-only = accepted-only b;
       brings-back = brought-back b;
       brings-none = brought-none b;

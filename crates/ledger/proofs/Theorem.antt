@@ -6,29 +6,34 @@ use Prim.Native.Nat.{ℕ, _+_, _-_, _≤_, _<_, min}
 use native.Mathlib.Omega.{arith}
 use borrow.Author.Tests.{leb-true, leb-false}
 use lib.Dec.{T, leb}
+use lib.IntN.{pos}
 use lib.ListN.{length, getD}
-use Rattle.method.specs.Units.{Which, pair}
+use Rattle.fraction.specs.Rounding.{Encloses}
+use Rattle.method.specs.Units.{Which, plain, adjusted, pair, SignedPair}
 use Rattle.method.specs.Grounds.{noCurve, bufferTooShort, ageAboveLimit, noHighRate, refused, done, _>>=_}
 use Rattle.method.specs.Curve.{Curve, Held, none, some, Curves, curveNamed, answer}
 use Rattle.method.specs.Enclosure.{CurveHolds, lowOf, highOf}
+use Rattle.method.specs.True.{trueFactor}
 use Rattle.method.proofs.Enclosure.{enclosure}
 use Rattle.method.proofs.Outcome.{split}
 use Rattle.method.proofs.Holding.{none-not-some, some-injective}
 use Rattle.zero_rates.specs.Rates.{greatestMultiplier, reaches, ratesOf, zeroRates}
 use Rattle.zero_rates.specs.Meaning.{HighRateExists}
 use Rattle.zero_rates.proofs.Theorem.{zero-rates, no-rate, rates-ordered, rates-between}
-use Rattle.ledger.specs.Answers.{finding}
+use Rattle.ledger.specs.Answers.{Wanted, factor, sum, finding}
+use Rattle.ledger.specs.Sums.{Sums, sumsOf, sumsOfHeld, summed}
 use Rattle.ledger.specs.History.{History}
-use Rattle.ledger.specs.Book.{Book, Paged, standingOf, named, age, openCurve, bandAt, lookUp, page}
+use Rattle.ledger.specs.Book.{Book, Paged, standingOf, named, sumsNamed, age, openCurve, bandAt, lookIn, sumAt, shown, lookUp, page}
 use Rattle.ledger.specs.Calls.{lookAt, pageInto, Call, run}
 use Rattle.ledger.specs.Count.{Count, latest, monthOf, carries, typed, counted, countFrom, nothing, count}
-use Rattle.ledger.specs.Tells.{missing, Carries, bandAmong, bandIn, bandOf, Band, Finds, LookTells, PageWritten, PageTells}
-use Rattle.ledger.specs.Demands.{Demand3, seenFrom, CountIsLast, CurveFits, FitsPage}
+use Rattle.ledger.specs.Tells.{missing, Carries, bandAmong, bandIn, bandOf, Band, shownOf, trueOf, Finds, LookTells, PageWritten, PageTells}
+use Rattle.ledger.specs.Demands.{Demand3, sumsInHeld, SumsKept, seenFrom, CountIsLast, withSums, CurveFits, FitsPage}
 use Rattle.ledger.proofs.Ways.{historyOf}
 use Rattle.ledger.proofs.Count.{bookOf, Sound, AllSound, SoundCount, sound, all-sound, works-done, answer-typed}
-use Rattle.ledger.proofs.Count.{curve-month, curve-there, curve-missing, moves, steps}
-use Rattle.ledger.proofs.Asked.{refusal-kept, other-ground, open-within, closed-old, closed-none, look-outside, look-open, look-closed}
-use Rattle.ledger.proofs.Asked.{page-short, page-closed, page-refused, page-of-book}
+use Rattle.ledger.proofs.Count.{curve-month, worked-sums, curve-there, curve-missing, moves, steps}
+use Rattle.ledger.proofs.Sums.{sum-is, sum-encloses}
+use Rattle.ledger.proofs.Asked.{refusal-kept, other-ground, shown-refused, was-refused, open-within, closed-old, closed-none, look-outside}
+use Rattle.ledger.proofs.Asked.{look-open, look-closed, page-short, page-closed, page-refused, page-of-book}
 
 -- ---- what the sheet that stands is worked to
 
@@ -40,8 +45,13 @@ module _ (told : ℕ) (s : List ℕ) (g : Sound told s) where
   unfolding curves
   worked = works-done s (g .0) .1
 
-  stands : standingOf (some s) ≡ some curves
+  stands : standingOf (some s) ≡ some (summed curves)
   stands = rw worked
+
+  -- the sums beside each
+  sums-named : (w : Which) → sumsNamed w (standingOf (some s)) ≡ sumsOfHeld (curveNamed w curves)
+  sums-named plain = rw stands
+  sums-named adjusted = rw stands
 
   -- a curve that it does not carry is none
   not-named : (w : Which) → carries w s ≡ false → named w (standingOf (some s)) ≡ none
@@ -79,6 +89,24 @@ module _ (told : ℕ) (s : List ℕ) (g : Sound told s) where
           holds-true-factor = λ n. holds .encloses-true n y h k;
         })
 
+    sums-is : sumsNamed w (standingOf (some s)) ≡ some (sumsOf curve)
+    sums-is = rw (sums-named w, among)
+
+    -- what is asked for: the curve's own, and of every order the true curve's between its ends
+    shown-at : (v : Wanted) (y : ℕ) → 1 ≤ y → y ≤ 150 → (r : SignedPair) (m a : ℕ) →
+        shown v (sumsNamed w (standingOf (some s))) y (done (finding (bandAt curve y) r m a)) ≡ done (finding (shownOf v w s y) r m a)
+    shown-at factor y h k r m a = rw (band-at y)
+    shown-at sum y h k r m a =
+        let held = ap (λ (u : Held Sums). sumAt u y) sums-is ∙ sum-is curve (holds .years-of-lows) (holds .years-of-highs) y h k in
+        rw (held, worked, among)
+
+    true-held : (v : Wanted) (y : ℕ) → 1 ≤ y → y ≤ 150 → (n : ℕ) →
+        Encloses (pos (shownOf v w s y .low)) (pos (shownOf v w s y .high)) (trueOf v w n (typed s) y)
+    true-held factor y h k n = band-of y h k .holds-true-factor n
+    true-held sum y h k n =
+        rw (worked, among)
+        (sum-encloses (lowOf curve) (highOf curve) (trueFactor w n (typed s)) y (λ t i j. holds .encloses-true n t i (omega (arith, j, k))))
+
     high-fits : (k : ℕ) → k < 150 → getD (curve .highs) k 0 < 4_294_967_296
     high-fits k h = let e : k + 1 - 1 ≡ k = omega arith in omega (arith, rw e at (holds .at-most (k + 1) (omega arith) (omega arith)))
 
@@ -113,32 +141,36 @@ module _ (told : ℕ) (s : List ℕ) (g : Sound told s) where
       closed-held : limit < told - monthOf s → openCurve here told made-with ≡ refused ageAboveLimit
       closed-held h = closed-old here told made-with curve named-is (rw month-is (omega arith))
 
+      abbrev here-sums : Held Sums
+      here-sums = sumsNamed w (held .standing)
+
       module _ (within : told - monthOf s ≤ limit) (y : ℕ) (h : 1 ≤ y) (k : y ≤ 150) where
         -- what the curve's rates make of the look-up
-        looked : lookUp held w y ≡ (zeroRates y (bandAt curve y) >>= λ r. done (finding (bandAt curve y) r (curve .month) (age told curve)))
+        looked : lookIn here told made-with y ≡ (zeroRates y (bandAt curve y) >>= λ r. done (finding (bandAt curve y) r (curve .month) (age told curve)))
         looked = look-open here told made-with y curve (open-held within) h k
 
-        finds-of : (c : Count) → c .told ≡ told → HighRateExists y (bandOf w s y .low) → Finds c w s y (lookUp held w y)
-        finds-of c e exists =
+        finds-of : (c : Count) → c .told ≡ told → (v : Wanted) → HighRateExists y (bandOf w s y .low) → Finds c w v s y (lookUp held w v y)
+        finds-of c e v exists =
             let rated = zero-rates y (bandAt curve y) h (holds .at-most y h k) (rw (band-at y) at exists) in
             record {
               not-after-told = rw e (g .1);
               rates = ratesOf y (bandOf w s y);
-              found = rw (looked, rated .0, band-at y, e, month-is);
+              found = rw (looked, rated .0) (shown-at v y h k _ _ _ ∙ rw (band-at y, e, month-is));
+              holds-true = true-held v y h k;
               band = band-of y h k;
               band-rates = rw (band-at y) (rated .1);
               rates-ordered = rates-ordered y (bandOf w s y) _ h (band-of y h k .ordered) (rw (band-at y) (rated .1));
               holds-true-rate = λ n. rates-between y (bandOf w s y) _ _ (rw (band-at y) (rated .1)) (band-of y h k .holds-true-factor n);
             }
 
-        look-unrated : (HighRateExists y (bandOf w s y .low) → ⊥) → lookUp held w y ≡ refused noHighRate
-        look-unrated unrated = rw (looked, no-rate y (bandAt curve y) .1 (rw (band-at y) at unrated))
+        look-unrated : (v : Wanted) → (HighRateExists y (bandOf w s y .low) → ⊥) → lookUp held w v y ≡ refused noHighRate
+        look-unrated v unrated = shown-refused v here-sums y (rw (looked, no-rate y (bandAt curve y) .1 (rw (band-at y) at unrated)))
 
-      look-old : limit < told - monthOf s → (y : ℕ) → 1 ≤ y → y ≤ 150 → lookUp held w y ≡ refused ageAboveLimit
+      look-old : limit < told - monthOf s → (y : ℕ) → 1 ≤ y → y ≤ 150 → lookIn here told made-with y ≡ refused ageAboveLimit
       look-old older y h k = look-closed here told made-with y (closed-held older) h k
 
       -- a book that holds a curve never says that there is none
-      look-never-none : (y : ℕ) → 1 ≤ y → y ≤ 150 → lookUp held w y ≡ refused noCurve → ⊥
+      look-never-none : (y : ℕ) → 1 ≤ y → y ≤ 150 → lookIn here told made-with y ≡ refused noCurve → ⊥
       look-never-none y h k e =
           split (leb (told - monthOf s) limit)
           (λ q. let within = leb-true _ _ q in
@@ -189,12 +221,14 @@ module _ (limit told : ℕ) (m : told ≤ 2_399) (depth : ℕ) (w : Which) where
 
   -- where the named curve is missing
   look-missing : (ss : List (List ℕ)) → named w (standingOf (latest ss)) ≡ none → missing w (latest ss) ≡ true →
-      ((s : List ℕ) → Carries (count-with ss) w s → ⊥) → (y : ℕ) → LookTells limit (count-with ss) w y (lookUp (book-with ss) w y)
-  look-missing ss none-named gone carried y =
+      ((s : List ℕ) → Carries (count-with ss) w s → ⊥) → (v : Wanted) (y : ℕ) → LookTells limit (count-with ss) w v y (lookUp (book-with ss) w v y)
+  look-missing ss none-named gone carried v y =
       let k = named w (standingOf (latest ss)) in
+      let u = sumsNamed w (standingOf (latest ss)) in
+      let closed = closed-none k told (min limit 2_399) none-named in
       record {
-        outside = look-outside k told (min limit 2_399) y;
-        none-found = λ h k′. (λ e. gone, λ e. look-closed k told (min limit 2_399) y (closed-none k told (min limit 2_399) none-named) h k′);
+        outside = λ n. shown-refused v u y (look-outside k told (min limit 2_399) y n);
+        none-found = λ h k′. (λ e. gone, λ e. shown-refused v u y (look-closed k told (min limit 2_399) y closed h k′));
         finds = λ s e a h k x. absurd (carried s e);
         too-old = λ s e o h k. absurd (carried s e);
         no-high-rate = λ s e a h k x. absurd (carried s e);
@@ -219,19 +253,23 @@ module _ (limit told : ℕ) (m : told ≤ 2_399) (depth : ℕ) (w : Which) where
     abbrev history : History
     history = historyOf (s ∷ ss) depth
 
-    look-carried : (y : ℕ) → LookTells limit (count-with (s ∷ ss)) w y (lookUp (book-with (s ∷ ss)) w y)
-    look-carried y =
-        let look = lookUp (book-with (s ∷ ss)) w y in
+    look-carried : (v : Wanted) (y : ℕ) → LookTells limit (count-with (s ∷ ss)) w v y (lookUp (book-with (s ∷ ss)) w v y)
+    look-carried v y =
+        let look = lookUp (book-with (s ∷ ss)) w v y in
+        let factors = lookIn (named w (standingOf (some s))) told (min limit 2_399) y in
+        let u = sumsNamed w (standingOf (some s)) in
         record {
-          outside = look-outside (named w (standingOf (some s))) told (min limit 2_399) y;
-          none-found = λ h k. (λ e. absurd (look-never-none told s g w t limit m history y h k e), λ e. absurd (not-both (carries w s) t e));
+          outside = λ n. shown-refused v u y (look-outside (named w (standingOf (some s))) told (min limit 2_399) y n);
+          none-found = λ h k.
+              (λ e. absurd (look-never-none told s g w t limit m history y h k (was-refused v u y factors e)), λ e. absurd (not-both (carries w s) t e));
           finds = λ u e a h k exists.
               let same = some-injective (e .0) in
-              subst (λ x. Finds (count-with (s ∷ ss)) w x y look) same (finds-of told s g w t limit m history (rw same a) y h k _ refl (rw same exists));
-          too-old = λ u e o h k. look-old told s g w t limit m history (rw (some-injective (e .0)) o) y h k;
+              subst (λ x. Finds (count-with (s ∷ ss)) w v x y look) same
+              (finds-of told s g w t limit m history (rw same a) y h k _ refl v (rw same exists));
+          too-old = λ x e o h k. shown-refused v u y (look-old told s g w t limit m history (rw (some-injective (e .0)) o) y h k);
           no-high-rate = λ u e a h k none.
               let same = some-injective (e .0) in
-              look-unrated told s g w t limit m history (rw same a) y h k (rw same none);
+              look-unrated told s g w t limit m history (rw same a) y h k v (rw same none);
         }
 
     page-carried : (l : List ℕ) → PageTells limit (count-with (s ∷ ss)) w l (page (book-with (s ∷ ss)) w l)
@@ -248,12 +286,12 @@ module _ (limit told : ℕ) (m : told ≤ 2_399) (depth : ℕ) (w : Which) where
           bands = λ u e a y h k. subst (λ x. Band w x y (bandOf w x y)) (some-injective (e .0)) (band-of told s g w t y h k);
         }
 
-  look-tells : (ss : List (List ℕ)) → AllSound told ss → (y : ℕ) → LookTells limit (count-with ss) w y (lookUp (book-with ss) w y)
-  look-tells [] g y = look-missing [] refl refl (λ s e. none-not-some (e .0)) y
-  look-tells (s ∷ ss) g y =
+  look-tells : (ss : List (List ℕ)) → AllSound told ss → (v : Wanted) (y : ℕ) → LookTells limit (count-with ss) w v y (lookUp (book-with ss) w v y)
+  look-tells [] g v y = look-missing [] refl refl (λ s e. none-not-some (e .0)) v y
+  look-tells (s ∷ ss) g v y =
       split (carries w s)
-      (λ t. look-carried s ss (g .0) t y)
-      (λ f. look-missing (s ∷ ss) (not-named told s (g .0) w f) (rw f) (λ u e. other-carries w s u f (e .0) (e .1)) y)
+      (λ t. look-carried s ss (g .0) t v y)
+      (λ f. look-missing (s ∷ ss) (not-named told s (g .0) w f) (rw f) (λ u e. other-carries w s u f (e .0) (e .1)) v y)
 
   page-tells : (ss : List (List ℕ)) → AllSound told ss → (l : List ℕ) → PageTells limit (count-with ss) w l (page (book-with ss) w l)
   page-tells [] g l = page-missing [] refl refl (λ s e. none-not-some (e .0)) l
@@ -273,10 +311,10 @@ pub run-sound : (cs : List Call) → SoundCount (count cs)
 run-sound cs = all-sound nothing sound-nothing cs
 
 pub demand-3 : (limit : ℕ) (cs : List Call) → Demand3 limit cs
-demand-3 limit cs (lookAt w y) =
+demand-3 limit cs (lookAt w v y) =
     let c = count cs in
     let g = run-sound cs in
-    rw (run-is limit cs) (look-tells limit (c .told) (g .month) (c .depth) w (c .posts) (g .sheets) y)
+    rw (run-is limit cs) (look-tells limit (c .told) (g .month) (c .depth) w (c .posts) (g .sheets) v y)
 demand-3 limit cs (pageInto w l) =
     let c = count cs in
     let g = run-sound cs in
@@ -296,6 +334,23 @@ run-fits limit cs =
     let c = count cs in
     let g = run-sound cs in
     rw (run-is limit cs) (sheet-fits (min limit 2_399) (c .told) (c .posts) (c .depth) (g .month) (g .sheets))
+
+-- ---- the sums of the book that any list of calls leaves
+
+sheet-sums : (told : ℕ) (ss : List (List ℕ)) → AllSound told ss → (w : Which) →
+    sumsNamed w (standingOf (latest ss)) ≡ sumsInHeld (named w (standingOf (latest ss)))
+sheet-sums told [] g w = refl
+sheet-sums told (s ∷ ss) g w =
+    let made = works-done s (g .0 .0) in
+    let with-sums : standingOf (some s) ≡ some (withSums (made .0)) = rw (made .1) (ap some (worked-sums s (made .1))) in
+    rw with-sums (go w (made .0))
+  where
+    go : (w : Which) (cs : Curves) → sumsNamed w (some (withSums cs)) ≡ sumsInHeld (curveNamed w cs)
+    go plain cs = refl
+    go adjusted cs = refl
+
+pub sums-kept : (limit : ℕ) (cs : List Call) → SumsKept limit cs
+sums-kept limit cs w = let c = count cs in rw (run-is limit cs) (sheet-sums (c .told) (c .posts) (run-sound cs .sheets) w)
 
 -- ---- the count by the answers
 

@@ -4,6 +4,11 @@ use lib.IntN.{ℤ}
 use Rattle.method.specs.Units.{Pair, SignedPair}
 use Rattle.method.specs.Grounds.{numberOf, placeOf, Outcome, refused, done}
 
+-- what a look-up asks for: the year's factor, or the sum of the factors of years 1 to it
+pub data Wanted : Type 0 where
+  factor : Wanted
+  sum : Wanted
+
 pub record Finding : Type 0 where
   pub low : ℕ
   pub high : ℕ
@@ -12,7 +17,7 @@ pub record Finding : Type 0 where
   pub lowRate : ℤ
   pub highRate : ℤ
 
--- a year's band and its zero rates, with the month and the age of the curve
+-- a low and a high, the year's zero rates, and the month and the age of the curve
 abbrev pub finding : Pair → SignedPair → ℕ → ℕ → Finding
 finding p r m a = record { low = p .low; high = p .high; month = m; age = a; lowRate = r .low; highRate = r .high }
 

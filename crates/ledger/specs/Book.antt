@@ -3,21 +3,22 @@ use mathlib.Core.Bool.{Bool, true, _&&_}
 use mathlib.Core.List.{List, _++_}
 use Prim.Native.Nat.{ℕ, _-_, min}
 use lib.Dec.{leb}
-use lib.ListN.{length, drop}
-use Rattle.method.specs.Units.{Which, Pair, pair}
+use lib.ListN.{length, drop, getD}
+use Rattle.method.specs.Units.{Which, plain, adjusted, Pair, pair, signedPair}
 use Rattle.method.specs.Grounds.{afterToldMonth, beforeStandingCurve, monthAboveLast, monthBeforeTold, yearOutside, noCurve, bufferTooShort, ageAboveLimit}
 use Rattle.method.specs.Grounds.{Outcome, refused, done, _>>=_, demand}
 use Rattle.method.specs.Sheet.{readSheet}
 use Rattle.method.specs.Curve.{Curve, Held, none, some, Curves, curveNamed, curvesOf, answer}
 use Rattle.method.specs.Enclosure.{lowOf, highOf}
 use Rattle.zero_rates.specs.Rates.{zeroRates}
-use Rattle.ledger.specs.Answers.{Finding, finding}
+use Rattle.ledger.specs.Answers.{Wanted, factor, sum, Finding, finding}
 use Rattle.ledger.specs.History.{History, noPosts, withPost, wayBack}
+use Rattle.ledger.specs.Sums.{Sums, Summed, summed}
 use Rattle.ledger.specs.Page.{pageBytes, pageLength}
 
--- the curves of the sheet that stands, if there is one
+-- the curves of the sheet that stands, with their sums, if there is one
 abbrev pub Standing : Type 0
-Standing = Held Curves
+Standing = Held Summed
 
 pub record Book : Type 0 where
   pub ageLimit : ℕ
@@ -49,7 +50,7 @@ booked b changed said (done a) = record { book = changed a; answer = done (said 
 -- not before the standing curves' month; while none stands, any month passes
 abbrev pub notBefore : Standing → ℕ → Bool
 notBefore none month = true
-notBefore (some cs) month = leb (cs .plain .month) month
+notBefore (some k) month = leb (k .curves .plain .month) month
 
 unfoldable pub postOutcome : Book → List ℕ → Outcome Curves
 postOutcome b s = do
@@ -58,9 +59,9 @@ postOutcome b s = do
   _ ← demand (notBefore (b .standing) (n .month)) beforeStandingCurve
   curvesOf n
 
--- the curves and their month are replaced, and what stood can be had back; the answer is the sheet's month
+-- the curves, their sums and their month are replaced, and what stood can be had back; the answer is the sheet's month
 abbrev pub withCurves : Book → List ℕ → Curves → Book
-withCurves b s cs = record { ageLimit = b .ageLimit; told = b .told; standing = some cs; history = withPost s (b .history) }
+withCurves b s cs = record { ageLimit = b .ageLimit; told = b .told; standing = some (summed cs); history = withPost s (b .history) }
 
 unfoldable pub post : Book → List ℕ → Booked ℕ
 post b s = booked b (withCurves b s) (λ cs. cs .plain .month) (postOutcome b s)
@@ -87,14 +88,14 @@ turn b m = booked b (withTold b) (λ m. m) (turnOutcome b m)
 
 abbrev pub ifWorked : Outcome Curves → Standing
 ifWorked (refused g) = none
-ifWorked (done cs) = some cs
+ifWorked (done cs) = some (summed cs)
 
--- what stands where this sheet does: its curves, worked again
+-- what stands where this sheet does: its curves, worked again, and their sums
 abbrev pub standingOf : Held (List ℕ) → Standing
 standingOf none = none
 standingOf (some s) = ifWorked (answer s)
 
--- the curves and their month are those of the sheet that stands again; the told month remains
+-- the curves, their sums and their month are those of the sheet that stands again; the told month remains
 abbrev pub withHistory : Book → History → Book
 withHistory b h = record { ageLimit = b .ageLimit; told = b .told; standing = standingOf (h .sheet); history = h }
 
@@ -105,7 +106,13 @@ withdraw b = booked b (withHistory b) (λ h. tt) (wayBack (b .history .below))
 
 abbrev pub named : Which → Standing → Held Curve
 named w none = none
-named w (some cs) = curveNamed w cs
+named w (some k) = curveNamed w (k .curves)
+
+-- and its sums
+abbrev pub sumsNamed : Which → Standing → Held Sums
+sumsNamed w none = none
+sumsNamed plain (some k) = some (k .plainSums)
+sumsNamed adjusted (some k) = k .adjustedSums
 
 -- ---- what may be shown of a curve, or none, at a told month and with an age limit: 14, 16
 
@@ -139,8 +146,21 @@ lookIn k told limit y = do
   rates ← zeroRates y (bandAt c y)
   done (finding (bandAt c y) rates (c .month) (age told c))
 
-abbrev pub lookUp : Book → Which → ℕ → Outcome Finding
-lookUp b w y = lookIn (named w (b .standing)) (b .told) (b .ageLimit) y
+abbrev pub sumAt : Held Sums → ℕ → Pair
+sumAt none y = pair 0 0
+sumAt (some k) y = pair (getD (k .lows) (y - 1) 0) (getD (k .highs) (y - 1) 0)
+
+-- the sum in place of the factor; the year's rates, month and age as they came
+abbrev pub withSum : Held Sums → ℕ → Finding → Finding
+withSum k y f = finding (sumAt k y) (signedPair (f .lowRate) (f .highRate)) (f .month) (f .age)
+
+-- the same checks, whatever is asked for
+abbrev pub shown : Wanted → Held Sums → ℕ → Outcome Finding → Outcome Finding
+shown factor k y o = o
+shown sum k y o = o >>= λ f. done (withSum k y f)
+
+abbrev pub lookUp : Book → Which → Wanted → ℕ → Outcome Finding
+lookUp b w v y = shown v (sumsNamed w (b .standing)) y (lookIn (named w (b .standing)) (b .told) (b .ageLimit) y)
 
 -- ---- page: 14, 16, 15
 

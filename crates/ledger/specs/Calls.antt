@@ -3,12 +3,12 @@ use mathlib.Core.List.{List, [], _∷_}
 use Prim.Native.Nat.{ℕ}
 use Rattle.method.specs.Units.{Which}
 use Rattle.method.specs.Grounds.{Outcome}
-use Rattle.ledger.specs.Answers.{Finding, answerNumber, answerPlace}
+use Rattle.ledger.specs.Answers.{Wanted, Finding, answerNumber, answerPlace}
 use Rattle.ledger.specs.Book.{Book, Paged, fresh, post, turn, withdraw, lookUp, page}
 
--- what leaves the book as it is, and names its curve: a look-up of any year, a page into any buffer
+-- what leaves the book as it is, and names its curve: a look-up of any year, for its factor or its sum; a page into any buffer
 pub data Question : Type 0 where
-  lookAt : Which → ℕ → Question
+  lookAt : Which → Wanted → ℕ → Question
   pageInto : Which → List ℕ → Question
 
 -- a post of any bytes, a turn to any month, a withdrawal, or a question
@@ -36,11 +36,11 @@ run limit cs = runFrom (fresh limit) cs
 -- ---- what a question is answered
 
 abbrev pub AnswerTo : Question → Type 0
-AnswerTo (lookAt w y) = Outcome Finding
+AnswerTo (lookAt w v y) = Outcome Finding
 AnswerTo (pageInto w l) = Paged
 
 abbrev pub answered : Book → (q : Question) → AnswerTo q
-answered b (lookAt w y) = lookUp b w y
+answered b (lookAt w v y) = lookUp b w v y
 answered b (pageInto w l) = page b w l
 
 -- ---- the number and the place that any call is answered
@@ -56,5 +56,5 @@ abbrev pub answerOf : Book → Call → Answer
 answerOf b (postOf s) = answerBy (post b s .answer)
 answerOf b (turnTo m) = answerBy (turn b m .answer)
 answerOf b withdrawal = answerBy (withdraw b .answer)
-answerOf b (asks (lookAt w y)) = answerBy (lookUp b w y)
+answerOf b (asks (lookAt w v y)) = answerBy (lookUp b w v y)
 answerOf b (asks (pageInto w l)) = answerBy (page b w l .answer)

@@ -8,7 +8,7 @@ use lib.Dec.{ltb, eqb}
 use lib.IntN.{pos, _*ℤ_}
 use lib.ListN.{length, getD, take, drop, replicate}
 use lib.Signed.{ltZ}
-use Rattle.method.specs.Units.{Which, pair, signedPair}
+use Rattle.method.specs.Units.{Which, Pair, pair, signedPair}
 use Rattle.method.specs.Grounds.{Ground, wrongLength, wrongRecord, outOfRange, noVolume, afterToldMonth, beforeStandingCurve}
 use Rattle.method.specs.Grounds.{monthAboveLast, monthBeforeTold, yearOutside, noCurve, bufferTooShort, ageAboveLimit, noHighRate, noPostLeft}
 use Rattle.method.specs.Grounds.{Outcome, refused, done}
@@ -17,11 +17,12 @@ use Rattle.method.specs.Curve.{Curve, Held, none, some, Curves, curvesOf, answe
 use Rattle.method.specs.Enclosure.{lowOf, highOf}
 use Rattle.zero_rates.specs.Rates.{ratesOf}
 use Rattle.zero_rates.specs.Meaning.{grown}
-use Rattle.ledger.specs.Answers.{Finding, finding}
-use Rattle.ledger.specs.Book.{Standing, Book, fresh, post, turn, withdraw, named, lookUp, page}
+use Rattle.ledger.specs.Answers.{Wanted, factor, sum, Finding, finding}
+use Rattle.ledger.specs.Sums.{Sums, Summed}
+use Rattle.ledger.specs.Book.{Standing, Book, fresh, post, turn, withdraw, named, sumsNamed, lookUp, page}
 use Rattle.ledger.specs.Calls.{Question, Call, postOf, turnTo, withdrawal, asks, after, runFrom, run, answered, answerOf}
-use Rattle.ledger.specs.Count.{Count, nothing, count}
-use Rattle.ledger.specs.Tells.{PageWritten, Tells}
+use Rattle.ledger.specs.Count.{Count, nothing, count, offsets}
+use Rattle.ledger.specs.Tells.{sumTo, PageWritten, Tells}
 
 -- ═══ Demand 3: over EVERY list of calls from a fresh book of ANY age limit, any question is answered as the count of the list tells
 
@@ -30,13 +31,27 @@ Demand3 limit cs = (q : Question) → Tells limit (count cs) q (answered (run li
 
 -- ═══ A turn can close a curve that a look-up showed before, and the book still holds it
 
-pub record Closes (b : Book) (w : Which) (y m : ℕ) : Type 0 where
+pub record Closes (b : Book) (w : Which) (v : Wanted) (y m : ℕ) : Type 0 where
   pub accepted : turn b m .answer ≡ done m
   pub still-held : turn b m .book .standing ≡ b .standing
-  pub closed : lookUp (turn b m .book) w y ≡ refused ageAboveLimit
+  pub closed : lookUp (turn b m .book) w v y ≡ refused ageAboveLimit
 
 abbrev pub TurnCloses : Book → Type 0
-TurnCloses b = (w : Which) (y m : ℕ) (f : Finding) → lookUp b w y ≡ done f → b .told ≤ m → m ≤ 2_399 → f .month + b .ageLimit < m → Closes b w y m
+TurnCloses b = (w : Which) (v : Wanted) (y m : ℕ) (f : Finding) →
+    lookUp b w v y ≡ done f → b .told ≤ m → m ≤ 2_399 → f .month + b .ageLimit < m → Closes b w v y m
+
+-- ═══ After every list of calls the sums that the book holds are those of its curves: for each curve, and for each year t of 1 to 150, the
+-- sum of its lows of years 1 to t, and that of its highs
+
+abbrev pub sumsIn : Curve → Sums
+sumsIn c = record { lows = map (sumTo (lowOf c)) (offsets 1 1 150); highs = map (sumTo (highOf c)) (offsets 1 1 150) }
+
+abbrev pub sumsInHeld : Held Curve → Held Sums
+sumsInHeld none = none
+sumsInHeld (some c) = some (sumsIn c)
+
+abbrev pub SumsKept : ℕ → List Call → Type 0
+SumsKept limit cs = (w : Which) → sumsNamed w (run limit cs .standing) ≡ sumsInHeld (named w (run limit cs .standing))
 
 -- ═══ The age limit closes a curve and does nothing else. Whatever it is, the same curve stands, with the same ways back, and the same
 -- posts, turns and withdrawals are accepted as with the largest one; a question is answered as with that, or 16, which that one never answers
@@ -123,7 +138,7 @@ first (yes g ∷ gs) o = refused g
 -- the sheet's month is before that of the standing curves
 abbrev pub standsAfter : Standing → ℕ → Bool
 standsAfter none m = false
-standsAfter (some cs) m = ltb m (cs .plain .month)
+standsAfter (some k) m = ltb m (k .curves .plain .month)
 
 abbrev pub vacant : Held Curve → Bool
 vacant none = true
@@ -176,10 +191,16 @@ pageGrounds b w l =
     ∷ when (ltb (length l) 1_505) bufferTooShort
     ∷ []
 
--- what a look-up of a year has, where no ground applies
-abbrev pub foundIn : ℕ → Held Curve → ℕ → Finding
-foundIn told none y = finding (pair 0 0) (signedPair (pos 0) (pos 0)) 0 0
-foundIn told (some c) y = let band = pair (lowOf c y) (highOf c y) in finding band (ratesOf y band) (c .month) (told - c .month)
+-- a year's band; or what the book holds as its sums, whatever that is
+abbrev pub shownIn : Wanted → Curve → Held Sums → ℕ → Pair
+shownIn factor c k y = pair (lowOf c y) (highOf c y)
+shownIn sum c none y = pair 0 0
+shownIn sum c (some k) y = pair (getD (k .lows) (y - 1) 0) (getD (k .highs) (y - 1) 0)
+
+-- what a look-up of a year has, where no ground applies: the rates are the factor's
+abbrev pub foundIn : Wanted → ℕ → Held Curve → Held Sums → ℕ → Finding
+foundIn v told none k y = finding (pair 0 0) (signedPair (pos 0) (pos 0)) 0 0
+foundIn v told (some c) k y = finding (shownIn v c k y) (ratesOf y (pair (lowOf c y) (highOf c y))) (c .month) (told - c .month)
 
 abbrev pub monthIn : Outcome Curves → Outcome ℕ
 monthIn (refused g) = refused g
@@ -198,12 +219,19 @@ pub record Demand1 (b : Book) : Type 0 where
   pub withdraw-first : withdraw b .answer ≡ first (withdrawGrounds b) (done tt)
   pub withdraw-refused : (g : Ground) → withdraw b .answer ≡ refused g → withdraw b .book ≡ b
   pub withdraw-told : withdraw b .book .told ≡ b .told
-  pub look-first : (w : Which) (y : ℕ) → lookUp b w y ≡ first (lookGrounds b w y) (done (foundIn (b .told) (named w (b .standing)) y))
+  -- the same grounds, whatever is asked for
+  pub look-first :
+      (w : Which) (v : Wanted) (y : ℕ) →
+      lookUp b w v y ≡ first (lookGrounds b w y) (done (foundIn v (b .told) (named w (b .standing)) (sumsNamed w (b .standing)) y))
   pub page-first : (w : Which) (l : List ℕ) → page b w l .answer ≡ first (pageGrounds b w l) (done tt)
   pub page-refused : (w : Which) (l : List ℕ) (g : Ground) → page b w l .answer ≡ refused g → page b w l .buffer ≡ l
 
 -- ═══ Demand 2: a post accepts precisely the sheets, and stores precisely the numbers, that the definitions give; a withdrawal brings
 -- precisely them back; a page carries exactly the book's numbers
+
+-- curves, and the sums of each
+abbrev pub withSums : Curves → Summed
+withSums cs = record { curves = cs; plainSums = sumsIn (cs .plain); adjustedSums = sumsInHeld (cs .adjusted) }
 
 -- the book with these curves, of this sheet, and these ways back in place of its own
 abbrev pub holding : Book → Standing → Held (List ℕ) → List (Held (List ℕ)) → Book
@@ -211,14 +239,14 @@ holding b k h hs = record { ageLimit = b .ageLimit; told = b .told; standing = k
 
 -- after a post what stood is the first of the ways back, of which three are kept
 abbrev pub holdingPost : Book → List ℕ → Curves → Book
-holdingPost b s cs = holding b (some cs) (some s) (take 3 (b .history .sheet ∷ b .history .below))
+holdingPost b s cs = holding b (some (withSums cs)) (some s) (take 3 (b .history .sheet ∷ b .history .below))
 
 -- a sheet that passes 1 to 4, whose month is told and not before the standing one, and whose numbers work
 pub record Accepted (b : Book) (s : List ℕ) (cs : Curves) : Type 0 where
   pub numbers : Numbers
   pub reads : readSheet s ≡ done numbers
   pub month-told : numbers .month ≤ b .told
-  pub in-order : (ks : Curves) → b .standing ≡ some ks → ks .plain .month ≤ numbers .month
+  pub in-order : (k : Summed) → b .standing ≡ some k → k .curves .plain .month ≤ numbers .month
   pub worked : curvesOf numbers ≡ done cs
 
 -- numbers that fit the page's bytes
@@ -234,7 +262,7 @@ abbrev pub FitsPage : Book → Type 0
 FitsPage b = (w : Which) (c : Curve) → named w (b .standing) ≡ some c → CurveFits (b .told) c
 
 pub record Demand2 (b : Book) : Type 0 where
-  -- whatever passes is accepted, and its curves are stored
+  -- whatever passes is accepted, and its curves and their sums are stored
   pub accepts : (s : List ℕ) (cs : Curves) → Accepted b s cs → post b s ≡ record { book = holdingPost b s cs; answer = done (cs .plain .month) }
   -- and nothing else is
   pub accepts-only :
@@ -242,7 +270,7 @@ pub record Demand2 (b : Book) : Type 0 where
   -- the sheet that stood before works as it did; where none did, there is no curve
   pub brings-back :
       (s : List ℕ) (cs : Curves) (hs : List (Held (List ℕ))) → b .history .below ≡ some s ∷ hs → answer s ≡ done cs →
-      withdraw b ≡ record { book = holding b (some cs) (some s) hs; answer = done tt }
+      withdraw b ≡ record { book = holding b (some (withSums cs)) (some s) hs; answer = done tt }
   pub brings-none : (hs : List (Held (List ℕ))) → b .history .below ≡ none ∷ hs → withdraw b ≡ record { book = holding b none none hs; answer = done tt }
   pub pages :
       (w : Which) (c : Curve) (l : List ℕ) → named w (b .standing) ≡ some c → CurveFits (b .told) c → b .told - c .month ≤ b .ageLimit → 1_505 ≤ length l →

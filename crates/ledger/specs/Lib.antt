@@ -1,6 +1,7 @@
 pub mod Answers
 pub mod Page
 pub mod History
+pub mod Sums
 pub mod Book
 pub mod Calls
 pub mod Count

@@ -3,18 +3,20 @@ use mathlib.Core.Path.{_≡_}
 use mathlib.Core.Bool.{Bool, true, not}
 use mathlib.Core.Logic.{_↔_}
 use mathlib.Core.List.{List}
-use Prim.Native.Nat.{ℕ, _+_, _*_, _-_, _≤_, _<_}
+use Prim.Native.Nat.{ℕ, zero, suc, _+_, _*_, _-_, _≤_, _<_}
 use lib.IntN.{pos}
 use lib.Signed.{_≤ℤ_}
 use lib.ListN.{length, getD, drop}
+use Rattle.fraction.specs.Fraction.{ℚ, sumℚ}
 use Rattle.fraction.specs.Rounding.{Encloses}
 use Rattle.method.specs.Units.{Which, Pair, pair, SignedPair}
+use Rattle.method.specs.Sheet.{Numbers}
 use Rattle.method.specs.Grounds.{Ground, yearOutside, noCurve, bufferTooShort, ageAboveLimit, noHighRate, Outcome, refused, done}
 use Rattle.method.specs.Curve.{Curve, Held, none, some, Curves, curveNamed, answer}
 use Rattle.method.specs.Enclosure.{lowOf, highOf}
 use Rattle.method.specs.True.{trueCurve, trueFactor}
 use Rattle.zero_rates.specs.Meaning.{BandRates, HighRateExists, RateBetween}
-use Rattle.ledger.specs.Answers.{Finding}
+use Rattle.ledger.specs.Answers.{Wanted, factor, sum, Finding}
 use Rattle.ledger.specs.Book.{Paged}
 use Rattle.ledger.specs.Calls.{Question, lookAt, pageInto, AnswerTo}
 use Rattle.ledger.specs.Count.{Count, lastSheet, monthOf, limitOf, carries, typed}
@@ -51,38 +53,58 @@ pub record Band (w : Which) (s : List ℕ) (y : ℕ) (p : Pair) : Type 0 where
   pub true-years : (n : ℕ) → length (trueCurve w n (typed s)) ≡ 150
   pub holds-true-factor : (n : ℕ) → Encloses (pos (p .low)) (pos (p .high)) (trueFactor w n (typed s) y)
 
+-- ---- what a look-up asks for
+
+-- f 1 + .. + f t
+unfoldable pub sumTo : (ℕ → ℕ) → ℕ → ℕ
+sumTo f zero = 0
+sumTo f (suc t) = sumTo f t + f (suc t)
+
+-- the year's band; or the lows of years 1 to y added, and the highs
+abbrev pub shownOf : Wanted → Which → List ℕ → ℕ → Pair
+shownOf factor w s y = bandOf w s y
+shownOf sum w s y = pair (sumTo (λ t. bandOf w s t .low) y) (sumTo (λ t. bandOf w s t .high) y)
+
+-- the true curve's own, of order n: the year's factor; or the factors of years 1 to y added
+abbrev pub trueOf : Wanted → Which → ℕ → Numbers → ℕ → ℚ
+trueOf factor w n s y = trueFactor w n s y
+trueOf sum w n s y = sumℚ (λ i. trueFactor w n s (suc i)) y
+
 -- ---- a look-up
 
 -- of the sheet that the count holds; written out here, so that nothing is shared with the look-up
-abbrev pub findingOf : Count → Which → List ℕ → ℕ → SignedPair → Finding
-findingOf c w s y r =
+abbrev pub findingOf : Count → Which → Wanted → List ℕ → ℕ → SignedPair → Finding
+findingOf c w v s y r =
     record {
-      low = bandOf w s y .low;
-      high = bandOf w s y .high;
+      low = shownOf v w s y .low;
+      high = shownOf v w s y .high;
       month = monthOf s;
       age = c .told - monthOf s;
       lowRate = r .low;
       highRate = r .high;
     }
 
-pub record Finds (c : Count) (w : Which) (s : List ℕ) (y : ℕ) (a : Outcome Finding) : Type 0 where
+pub record Finds (c : Count) (w : Which) (v : Wanted) (s : List ℕ) (y : ℕ) (a : Outcome Finding) : Type 0 where
   pub not-after-told : monthOf s ≤ c .told
   pub rates : SignedPair
-  pub found : a ≡ done (findingOf c w s y rates)
+  pub found : a ≡ done (findingOf c w v s y rates)
+  -- what is asked for, the true curve's own of every order between its ends
+  pub holds-true : (n : ℕ) → Encloses (pos (shownOf v w s y .low)) (pos (shownOf v w s y .high)) (trueOf v w n (typed s) y)
+  -- the band, its limit and the rates are the factor's, whatever is asked for
   pub band : Band w s y (bandOf w s y)
   -- the largest and the smallest of the rule, and the true curve's own rate of every order between them
   pub band-rates : BandRates y (bandOf w s y) rates
   pub rates-ordered : rates .low ≤ℤ rates .high
   pub holds-true-rate : (n : ℕ) → RateBetween y rates (trueFactor w n (typed s) y)
 
-pub record LookTells (limit : ℕ) (c : Count) (w : Which) (y : ℕ) (a : Outcome Finding) : Type 0 where
+pub record LookTells (limit : ℕ) (c : Count) (w : Which) (v : Wanted) (y : ℕ) (a : Outcome Finding) : Type 0 where
   pub outside : (1 ≤ y → y ≤ 150 → ⊥) → a ≡ refused yearOutside
   -- no curve exactly when it is missing
   pub none-found : 1 ≤ y → y ≤ 150 → (a ≡ refused noCurve) ↔ (missing w (lastSheet c) ≡ true)
-  -- otherwise that sheet's band, rates, month and age, within the age limit and where the year has a high rate
+  -- otherwise that sheet's band or sum, rates, month and age, within the age limit and where the year has a high rate
   pub finds :
       (s : List ℕ) → Carries c w s → c .told - monthOf s ≤ limit → 1 ≤ y → y ≤ 150 →
-      HighRateExists y (bandOf w s y .low) → Finds c w s y a
+      HighRateExists y (bandOf w s y .low) → Finds c w v s y a
   -- of an older curve the 16 alone
   pub too-old : (s : List ℕ) → Carries c w s → limit < c .told - monthOf s → 1 ≤ y → y ≤ 150 → a ≡ refused ageAboveLimit
   -- of a year without a high rate the 17 alone
@@ -129,5 +151,5 @@ pub record PageTells (limit : ℕ) (c : Count) (w : Which) (l : List ℕ) (p : P
 -- ---- any question
 
 abbrev pub Tells : ℕ → Count → (q : Question) → AnswerTo q → Type 0
-Tells limit c (lookAt w y) a = LookTells limit c w y a
+Tells limit c (lookAt w v y) a = LookTells limit c w v y a
 Tells limit c (pageInto w l) p = PageTells limit c w l p

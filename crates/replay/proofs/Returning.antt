@@ -134,7 +134,7 @@ reply-place : (b : Book) (f : Front) → replyPlace (replyTo b f) ≤ 150
 reply-place b (whole (postOf s) n) = answer-place b (postOf s)
 reply-place b (whole (turnTo m) n) = answer-place b (turnTo m)
 reply-place b (whole withdrawal n) = answer-place b withdrawal
-reply-place b (whole (asks (lookAt w y)) n) = answer-place b (asks (lookAt w y))
+reply-place b (whole (asks (lookAt w v y)) n) = answer-place b (asks (lookAt w v y))
 reply-place b (whole (asks (pageInto w l)) n) = omega arith
 reply-place b cut = omega arith
 reply-place b unknown = omega arith

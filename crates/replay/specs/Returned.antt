@@ -1,13 +1,13 @@
 -- SPECIFICATION 11: what the C interface returns, an answer and what stands in the buffer.
 use mathlib.Core.Bool.{cond}
 use mathlib.Core.List.{List, _++_}
-use Prim.Native.Nat.{ℕ, _+_, _*_, _%_}
+use Prim.Native.Nat.{ℕ, _+_, _*_, _/_, _%_}
 use lib.Dec.{eqb, leb}
 use lib.ListN.{length, drop}
 use Rattle.method.specs.Bytes.{inBytes, twosComplement32}
 use Rattle.method.specs.Units.{Which, plain, adjusted}
 use Rattle.method.specs.Grounds.{bufferTooShort, numberOf, Outcome, refused, done}
-use Rattle.ledger.specs.Answers.{Finding, answerNumber, answerPlace}
+use Rattle.ledger.specs.Answers.{Wanted, factor, sum, Finding, answerNumber, answerPlace}
 use Rattle.ledger.specs.Book.{Book, Paged, lookUp, page}
 use Rattle.ledger.specs.Calls.{run}
 use Rattle.ledger.specs.Count.{Count, count}
@@ -19,8 +19,8 @@ abbrev pub bookAfter : ℕ → List ℕ → Book
 bookAfter limit journal = run limit (decode journal)
 
 -- what is then answered, and what the calls count to
-abbrev pub lookAfter : ℕ → List ℕ → Which → ℕ → Outcome Finding
-lookAfter limit journal w y = lookUp (bookAfter limit journal) w y
+abbrev pub lookAfter : ℕ → List ℕ → Which → Wanted → ℕ → Outcome Finding
+lookAfter limit journal w v y = lookUp (bookAfter limit journal) w v y
 
 abbrev pub pageAfter : ℕ → List ℕ → Which → List ℕ → Paged
 pageAfter limit journal w l = page (bookAfter limit journal) w l
@@ -39,9 +39,16 @@ returned n l = record { answer = n; buffer = l }
 abbrev pub packed : {A : Type 0} → Outcome A → ℕ
 packed o = answerNumber o + 256 * answerPlace o
 
--- bit 0 of `kind` names the adjusted curve; all others are ignored
+-- bit 0 of `kind` names the adjusted curve, bit 1 asks a look-up for the sum; all others are ignored
 abbrev pub byKind : ℕ → Which
 byKind kind = cond (eqb (kind % 2) 1) adjusted plain
+
+abbrev pub wantedBy : ℕ → Wanted
+wantedBy kind = cond (eqb (kind / 2 % 2) 1) sum factor
+
+-- the look-up that `kind` asks for
+abbrev pub lookBy : ℕ → List ℕ → ℕ → ℕ → Outcome Finding
+lookBy limit journal kind y = lookAfter limit journal (byKind kind) (wantedBy kind) y
 
 -- low (8), high (8), month (2), age (2), low rate (4), high rate (4)
 abbrev pub foundBytes : Finding → List ℕ

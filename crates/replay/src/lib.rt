@@ -4,6 +4,7 @@ use big_endian::twos_complement;
 use book::Book;
 use book::Finding;
 use book::Looked;
+use book::Wanted;
 use book::Which;
 use grounds::Verdict;
 use journal::Reply;
@@ -14,11 +15,11 @@ ghost use lib.ListN.{length, drop};
 ghost use Rattle.ledger.specs.Calls.{lookAt, pageInto};
 ghost use Rattle.ledger.specs.Tells.{Tells};
 ghost use Rattle.ledger.specs.Demands.{Demand3, Withdraws};
-ghost use Rattle.grounds.specs.Verdicts.{asOutcome, resultOr, verdictNumber, verdictPlace};
-ghost use Rattle.book.specs.Views.{asWhich, asBook, asFinding, noFinding, asPaged};
+ghost use Rattle.grounds.specs.Verdicts.{resultOr, verdictNumber, verdictPlace};
+ghost use Rattle.book.specs.Views.{asWhich, asWanted, asBook, asFinding, asLooked, noFinding, asPaged};
 ghost use Rattle.journal.specs.Journal.{front, decode};
 ghost use Rattle.journal.specs.Replies.{replyTo};
-ghost use Rattle.replay.specs.Returned.{bookAfter, lookAfter, pageAfter, countOf, byKind, foundBytes};
+ghost use Rattle.replay.specs.Returned.{bookAfter, lookAfter, pageAfter, lookBy, countOf, byKind, wantedBy, foundBytes};
 ghost use Rattle.replay.specs.Returned.{returned, lookReturned, pageReturned, replied};
 
 // Makes all calls, from a fresh book of this age limit on.
@@ -40,12 +41,12 @@ fn replay(age_limit: u64, calls: &[u8]) -> Book
 }
 
 // What a look-up answers after these calls.
-pub fn look_after(age_limit: u64, calls: &[u8], which: Which, year: u64) -> Looked
-    ensures outcome { λ r. ⌜ asOutcome (r .verdict) (asFinding (r .finding)) ≡ lookAfter «age_limit» (now (calls .entry)) (asWhich which) year ⌝ }
-    ensures beside { λ r. ⌜ asFinding (r .finding) ≡ resultOr noFinding (lookAfter «age_limit» (now (calls .entry)) (asWhich which) year) ⌝ }
-    ensures told { λ r. ⌜ Tells «age_limit» (countOf (now (calls .entry))) (lookAt (asWhich which) year) (asOutcome (r .verdict) (asFinding (r .finding))) ⌝ }
+pub fn look_after(age_limit: u64, calls: &[u8], which: Which, wanted: Wanted, year: u64) -> Looked
+    ensures outcome { λ r. ⌜ asLooked r ≡ lookAfter «age_limit» (now (calls .entry)) (asWhich which) (asWanted wanted) year ⌝ }
+    ensures beside { λ r. ⌜ asFinding (r .finding) ≡ resultOr noFinding (lookAfter «age_limit» (now (calls .entry)) (asWhich which) (asWanted wanted) year) ⌝ }
+    ensures told { λ r. ⌜ Tells «age_limit» (countOf (now (calls .entry))) (lookAt (asWhich which) (asWanted wanted) year) (asLooked r) ⌝ }
 {
-    book::look_up(replay(age_limit, calls), which, year)
+    book::look_up(replay(age_limit, calls), which, wanted, year)
 }
 
 // The page after these calls, written into a lent buffer.
@@ -59,7 +60,7 @@ pub fn page_after(age_limit: u64, calls: &[u8], which: Which, out: &mut [u8]) ->
 
 // ---- the same for programs in C
 
-// Bit 0 names the adjusted curve; all others are ignored.
+// Bit 0 names the adjusted curve.
 fn which_by(kind: u64) -> Which
     ensures { λ r. ⌜ asWhich r ≡ byKind kind ⌝ }
 {
@@ -67,6 +68,16 @@ fn which_by(kind: u64) -> Which
         return Which::Adjusted;
     }
     Which::Plain
+}
+
+// Bit 1 asks for the sum; all others are ignored.
+fn wanted_by(kind: u64) -> Wanted
+    ensures { λ r. ⌜ asWanted r ≡ wantedBy kind ⌝ }
+{
+    if kind / 2 % 2 == 1 {
+        return Wanted::Sum;
+    }
+    Wanted::Factor
 }
 
 // A look-up's reply: each number straight to its own bytes.
@@ -99,10 +110,10 @@ pub extern "C" fn tuyqorem_look_after(
     year: u64,
     out: &mut [u8],
 ) -> u64
-    ensures returned { λ r. ⌜ returned r (now (out .exit)) ≡ lookReturned (lookAfter «age_limit» (now (calls .entry)) (byKind kind) year) (now (out .entry)) ⌝ }
+    ensures returned { λ r. ⌜ returned r (now (out .exit)) ≡ lookReturned (lookBy «age_limit» (now (calls .entry)) kind year) (now (out .entry)) ⌝ }
     ensures told { λ _. ⌜ Demand3 «age_limit» (decode (now (calls .entry))) ⌝ }
 {
-    let looked = look_after(age_limit, calls, which_by(kind), year);
+    let looked = look_after(age_limit, calls, which_by(kind), wanted_by(kind), year);
     let verdict = looked.verdict;
     let Verdict::Passed = verdict else {
         return packed(verdict);

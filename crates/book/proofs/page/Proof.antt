@@ -32,7 +32,7 @@ returns c =
     let told = at-page .before .before .before .before .before .before .before in
     let a = told .before .before .before .args in
     let named = plain-named (a .t1) (a .which) (told .enum-told .given .1) in
-    at-page .page-in .ensures (a .t1 .standing .curves .plain) refl refl refl
+    at-page .page-in .ensures (a .t1 .standing .summed .curves .plain) refl refl refl
     ∙ ap (λ (k : Held Curve). pageIn k (a .t1 .told) (a .t1 .«age_limit») (now (a .out))) (sym named)
 
 same-length-2 : tie.Need-same-length-2
@@ -45,7 +45,7 @@ returns-2 c =
     let told = stands .before in
     let a = told .before .before .before .args in
     let named = adjusted-named (a .t1) (a .which) (told .enum-told2 .given .1) (stands .both .ensures) in
-    at-page .page-in2 .ensures (a .t1 .standing .curves .adjusted) refl refl refl
+    at-page .page-in2 .ensures (a .t1 .standing .summed .curves .adjusted) refl refl refl
     ∙ ap (λ (k : Held Curve). pageIn k (a .t1 .told) (a .t1 .«age_limit») (now (a .out))) (sym named)
 
 pub page-spec : {M : Type 1} → statement M

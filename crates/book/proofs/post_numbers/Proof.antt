@@ -26,7 +26,7 @@ module _ (m : tie.Else2) where
 
   in-order : notBefore (asBook (start .args .book) .standing) (start .args .n .month) ≡ true
   in-order =
-      sym (order-is (start .args .book .standing .has) (start .args .book .standing .curves) (start .args .n .month))
+      sym (order-is (start .args .book .standing .has) (start .args .book .standing .summed) (start .args .n .month))
       ∙ sym (m .before .not-before .ensures)
       ∙ so (m .before .not-before .result) (m .if2 .left)
 
@@ -50,7 +50,7 @@ returns-2 c =
     let at-order = c .before .before in
     let at-month = at-order .before in
     let a = at-month .before .before .before .before .args in
-    let standing = order-is (a .book .standing .has) (a .book .standing .curves) (a .n .month) in
+    let standing = order-is (a .book .standing .has) (a .book .standing .summed) (a .n .month) in
     let order = sym standing ∙ sym (at-order .not-before .ensures) ∙ not-so (at-order .not-before .result) (c .before .if2 .taken) in
     down (c .turned-down2 .ensures) refl (before-standing (asBook (a .book)) (now (a .sheet)) (asNumbers (a .n)) (at-month .if1 .left) order)
 

@@ -55,10 +55,14 @@ returns-2 c =
     let refusal = at-verdict _ (c .before .enum-told4 .given .1) (at-worked .from-numbers .ensures .0) in
     c .nothing-stands2 .ensures ∙ not-worked _ (read at-worked) refusal
 
+stand-requires : tie.Need-stand-requires
+stand-requires c κs = search needs
+
 returns-3 : tie.Need-returns-3
 returns-3 c =
-    let at-worked = c .before .before .before in
-    worked-to _ (read at-worked) (at-verdict _ (c .before .enum-told3 .given .1) (at-worked .from-numbers .ensures .0))
+    let at-told = c .before .before in
+    let at-worked = at-told .before .before in
+    c .stand .ensures ∙ worked-to _ (read at-worked) (at-verdict _ (at-told .enum-told3 .given .1) (at-worked .from-numbers .ensures .0))
 
 pub worked-spec : {M : Type 1} → statement M
 worked-spec =
@@ -74,4 +78,5 @@ worked-spec =
     enum-told-4
     nothing-stands-requires-2
     returns-2
+    stand-requires
     returns-3)

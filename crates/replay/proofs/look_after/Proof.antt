@@ -9,7 +9,7 @@ use Rattle.ledger.specs.Count.{count}
 use Rattle.ledger.specs.Tells.{LookTells}
 use Rattle.ledger.proofs.Theorem.{demand-3}
 use Rattle.grounds.specs.Verdicts.{resultOr}
-use Rattle.book.specs.Views.{asWhich, noFinding}
+use Rattle.book.specs.Views.{asWhich, asWanted, noFinding}
 use Rattle.journal.specs.Journal.{decode}
 use borrow.Author.Needs.{needs}
 use Rattle.replay.proofs.look_after.Statement.{statement}
@@ -28,10 +28,11 @@ returns c =
     let a = c .before .before .before .args in
     let cs = decode (now (a .calls)) in
     let w = asWhich (a .which) in
-    let outcome = looked .0 ∙ ap (λ (b : Book). lookUp b w (a .year)) book in
-    let beside = looked .1 ∙ ap (λ (b : Book). resultOr noFinding (lookUp b w (a .year))) book in
-    let told = demand-3 (a .age-limit) cs (lookAt w (a .year)) in
-    (outcome, (beside, subst⁻¹ (λ (o : Outcome Finding). LookTells (a .age-limit) (count cs) w (a .year) o) outcome told))
+    let v = asWanted (a .wanted) in
+    let outcome = looked .0 ∙ ap (λ (b : Book). lookUp b w v (a .year)) book in
+    let beside = looked .1 ∙ ap (λ (b : Book). resultOr noFinding (lookUp b w v (a .year))) book in
+    let told = demand-3 (a .age-limit) cs (lookAt w v (a .year)) in
+    (outcome, (beside, subst⁻¹ (λ (o : Outcome Finding). LookTells (a .age-limit) (count cs) w v (a .year) o) outcome told))
 
 pub look-after-spec : {M : Type 1} → statement M
 look-after-spec = tie.close (tie.spec replay-requires look-up-requires returns)

@@ -1,16 +1,16 @@
 -- The answer as one number; a finding in 28 bytes where there is room.
-use mathlib.Core.Path.{_≡_, ap, _∙_}
+use mathlib.Core.Path.{_≡_, ap₂, _∙_}
 use denote.Ref.{now}
 use Rattle.method.specs.Units.{Which}
+use Rattle.ledger.specs.Answers.{Wanted}
 use Rattle.ledger.specs.Book.{lookUp}
 use Rattle.ledger.specs.Calls.{lookAt, asks, run}
 use Rattle.ledger.proofs.Places.{answer-place}
 use Rattle.ledger.proofs.Theorem.{demand-3}
-use Rattle.grounds.specs.Verdicts.{asOutcome}
 use Rattle.grounds.proofs.Chain.{at-verdict}
-use Rattle.book.specs.Views.{asFinding}
+use Rattle.book.specs.Views.{asFinding, asLooked}
 use Rattle.journal.specs.Journal.{decode}
-use Rattle.replay.specs.Returned.{bookAfter, byKind}
+use Rattle.replay.specs.Returned.{bookAfter, byKind, wantedBy}
 use Rattle.replay.proofs.Returning.{place-small, look-refused, look-short, look-found}
 use borrow.Author.Needs.{needs}
 use Rattle.replay.proofs.tuyqorem_look_after.Statement.{statement}
@@ -18,19 +18,23 @@ use Rattle.replay.proofs.tuyqorem_look_after.Tie as tie
 
 module _ (l : tie.After-look-after) where
   abbrev start : tie.Start
-  start = l .before .before .before .before
+  start = l .before .before .before .before .before
 
-  -- of the curve that `kind` names
+  -- of the curve that `kind` names, and what it asks for
   looked-is :
       let a = start .args in
-      asOutcome (l .look-after .result .verdict) (asFinding (l .look-after .result .finding))
-      ≡ lookUp (bookAfter (a .age-limit) (now (a .calls))) (byKind (a .kind)) (a .year)
+      asLooked (l .look-after .result) ≡ lookUp (bookAfter (a .age-limit) (now (a .calls))) (byKind (a .kind)) (wantedBy (a .kind)) (a .year)
   looked-is =
       let a = start .args in
-      l .look-after .ensures .0 ∙ ap (λ (w : Which). lookUp (bookAfter (a .age-limit) (now (a .calls))) w (a .year)) (l .before .which-by .ensures)
+      l .look-after .ensures .0
+      ∙ ap₂ (λ (w : Which) (v : Wanted). lookUp (bookAfter (a .age-limit) (now (a .calls))) w v (a .year))
+      (l .before .before .which-by .ensures) (l .before .wanted-by .ensures)
 
 which-by-requires : tie.Need-which-by-requires
 which-by-requires c κs = search needs
+
+wanted-by-requires : tie.Need-wanted-by-requires
+wanted-by-requires c κs = search needs
 
 look-after-requires : tie.Need-look-after-requires
 look-after-requires c κs = search needs
@@ -47,7 +51,7 @@ packed-requires c κs =
     let a = start at-look .args in
     let looked = at-look .look-after .result in
     place-small (looked .verdict) (asFinding (looked .finding)) (looked-is at-look)
-    (answer-place (run (a .age-limit) (decode (now (a .calls)))) (asks (lookAt (byKind (a .kind)) (a .year))))
+    (answer-place (run (a .age-limit) (decode (now (a .calls)))) (asks (lookAt (byKind (a .kind)) (wantedBy (a .kind)) (a .year))))
 
 returns : tie.Need-returns
 returns c =
@@ -85,6 +89,7 @@ tuyqorem-look-after-spec =
     tie.close
     (tie.spec
     which-by-requires
+    wanted-by-requires
     look-after-requires
     enum-told
     enum-told-2
