@@ -15,24 +15,32 @@
  * A sheet has 109, 112 or 115 bytes: it may end with a record for the phase-in (0x06, 3 bytes), one for the volatility
  * adjustment (0x07, 3 bytes), or both in this order. With an adjustment, be it 0, a post works two curves, the plain one and
  * the adjusted one, and is turned down as a whole where either fails. Look-ups and pages name their curve by kind: the adjusted
- * one where bit 0 is set, else the plain one; all other bits are ignored. A look-up in a journal is of the plain curve.
+ * one where bit 0 is set, else the plain one. A look-up also names what it wants of the year by kind: where bit 1 is set the sum
+ * of years 1 to that year, as an annuity of one a year has it, else the year's factor; a page ignores bit 1. All other bits are
+ * ignored. A look-up in a journal is of the plain curve's factor.
+ *
+ * The book holds for each of its curves, ready for look-ups, the sum of the lows and the sum of the highs of years 1 to t, for
+ * every year t; each accepted post and withdrawal sets them with the curve.
  *
  * A withdrawal takes back the latest accepted post that is not withdrawn: both curves and their month are again what stood
  * before it, be it none, and the told month remains. Up to three posts can be taken back, one after another; a post where three
  * can be forgets only the oldest way back. Where no post is left to withdraw the answer is 18.
  *
- * This is the interface from the withdrawal (U7) on: a journal's 0x57, an unknown kind before, is a withdrawal; no function has
- * changed for it. From U6 on tuyqorem_look_after and tuyqorem_page_after have the parameter kind, and had not; a look-up's reply
- * has 28 bytes, and had 12 before U3. So a program is compiled with the header of the library that it is linked with. Later ones
- * give another bit of kind a meaning: a program leaves those without one at 0. From U5 on a sheet's volume of 0 at 25, 30, 40 or
- * 50 years drops the quote of that maturity; no function has changed for it.
+ * This is the interface from the annuity sums (U8) on: bit 1 of a look-up's kind, ignored before, asks for the sum; no function
+ * has changed for it, and no record of a journal asks for one. From U7 on a journal's 0x57, an unknown kind before, is a
+ * withdrawal; no function has changed for it. From U6 on tuyqorem_look_after and tuyqorem_page_after have the parameter kind, and
+ * had not; a look-up's reply has 28 bytes, and had 12 before U3. So a program is compiled with the header of the library that it
+ * is linked with. A program leaves the bits of kind that have no meaning at 0, as bit 1 was to be left before. From U5 on a
+ * sheet's volume of 0 at 25, 30, 40 or 50 years drops the quote of that maturity; no function has changed for it.
  *
  * It is proved of tuyqorem_look_after and tuyqorem_page_after, for every age limit, every journal and every kind: no curve is
  * found exactly when no post of the journal is accepted and not withdrawn or, for the adjusted one, when the last such sheet has
  * no adjustment; a curve older than the limit answers 16; otherwise month and age are those of the last accepted post not
  * withdrawn and the last accepted turn, and each band is within that sheet's limit and holds the true factor of every order, on
- * the curve that is named. A look-up's rates are the largest and the smallest of their rule (docs/SPECIFICATION.md, 7.1), and
- * the true curve's own rate of every order lies between them; a look-up answers 17 exactly when there is no high rate.
+ * the curve that is named. A sum's ends are the sums of the bands' lows and of their highs, and the true curve's sum of every
+ * order lies between them; the limit is that of the factors, and a sum's ends may be further apart. A look-up's rates are the
+ * largest and the smallest of their rule (docs/SPECIFICATION.md, 7.1) for the year's factor, whichever is wanted, and the true
+ * curve's own rate of every order lies between them; a look-up answers 17 exactly when there is no high rate.
  *
  * It is proved of tuyqorem_answer_after, for every age limit, every journal and every call: the answer is exactly the one
  * that the definitions give to that call on the book of the journal; a withdrawal is answered 18 exactly when the journal's
@@ -50,19 +58,22 @@
 extern "C" {
 #endif
 
-/* The band of a year and its zero rates after the journal's calls, on the curve that kind names. Returns 0 and writes 28 bytes
- * to out: low (8), high (8), sheet month (2), age in months (2), low rate (4), high rate (4), high byte first. A factor is in
- * billionths; a rate is in hundred-thousandths of one, 3,000 being 3%, in two's complement, from -50,000 to 100,000. The bytes
- * of out past them are kept. Otherwise out is left as it was and the answer is, tried in this order, 13 (the year is not 1 to
+/* The band of a year, or of the sum of years 1 to it, and the year's zero rates after the journal's calls, on the curve that
+ * kind names. Returns 0 and writes 28 bytes to out: low (8), high (8), sheet month (2), age in months (2), low rate (4), high
+ * rate (4), high byte first. Low and high are those of the factor or, where bit 1 of kind is set, of the sum; the other bytes are
+ * the same for both. Factors and sums are in billionths, a sum being at most 300,000,000,000, which does not fit in 4 bytes; a
+ * rate is in hundred-thousandths of one, 3,000 being 3%, in two's complement, from -50,000 to 100,000. The bytes of out past them
+ * are kept. Otherwise out is left as it was and the answer is, tried in this order whichever is wanted, 13 (the year is not 1 to
  * 150), 14 (no curve, or the adjusted one is named and the sheet had no adjustment), 16 (the curve is older than the age limit),
- * 17 (no high rate up to 100,000 exists) or 15 (out has fewer than 28 bytes). */
+ * 17 (no high rate up to 100,000 exists for the year's factor) or 15 (out has fewer than 28 bytes). */
 uint64_t tuyqorem_look_after(uint64_t age_limit, const uint8_t *calls, size_t calls_len, uint64_t kind, uint64_t year,
                              uint8_t *out, size_t out_len);
 
 /* The page of the curve that kind names after the journal's calls. Returns 0 and writes 1,505 bytes to out: 0x48, sheet month
- * (2), age (2); then for years 1 to 150 0x59, year (1), low (4), high (4). The bytes of out past them are kept. Otherwise out
- * is left as it was and the answer is, tried in this order, 14 (no curve, or the adjusted one is named and the sheet had no
- * adjustment), 16 (the curve is older than the age limit) or 15 (out has fewer than 1,505 bytes). */
+ * (2), age (2); then for years 1 to 150 0x59, year (1), low (4), high (4), which are the factor's whatever bit 1 of kind is. The
+ * bytes of out past them are kept. Otherwise out is left as it was and the answer is, tried in this order, 14 (no curve, or the
+ * adjusted one is named and the sheet had no adjustment), 16 (the curve is older than the age limit) or 15 (out has fewer than
+ * 1,505 bytes). */
 uint64_t tuyqorem_page_after(uint64_t age_limit, const uint8_t *calls, size_t calls_len, uint64_t kind, uint8_t *out,
                              size_t out_len);
 

@@ -8,10 +8,11 @@ use reference::accepted::Count;
 use reference::book::{Book, Found, PAGE_LENGTH};
 use reference::curve::{Which, YEARS};
 use reference::desk::LOOK_UP;
-use reference::journal::{answer_on, book_after, calls, WITHDRAWAL};
+use reference::journal::{answer_on, book_after, calls, look_up_by, WITHDRAWAL};
 use reference::questions::curve_age;
 use reference::refusal::Refusal;
 use reference::streams::Random;
+use reference::sums::Wanted;
 
 use crate::{answer_after, look_after, page_after};
 
@@ -43,8 +44,8 @@ pub fn lent(length: usize) -> Vec<u8> {
     (0..length).map(|_| random.below(256) as u8).collect()
 }
 
-/// A question asked after a journal; `named` is the number that names the curve, and lengths are
-/// those of the lent buffer.
+/// A question asked after a journal; `named` is the number that names the curve and, in a look-up,
+/// the amount; lengths are those of the lent buffer.
 pub enum Question {
     LookUp {
         named: u64,
@@ -72,8 +73,9 @@ impl Question {
     pub fn kind(&self) -> Kind {
         let which = self.which();
         match self {
-            Question::LookUp { length, .. } if *length < LOOK_UP_LENGTH => Kind::ShortLookUp(which),
-            Question::LookUp { .. } => Kind::LookUp(which),
+            Question::LookUp { named, length, .. } => {
+                Kind::of_look_up(which, Wanted::named_by(*named), *length < LOOK_UP_LENGTH)
+            }
             Question::Page { length, .. } if *length < PAGE_LENGTH => Kind::ShortPage(which),
             Question::Page { .. } => Kind::Page(which),
             Question::Answer { .. } if self.withdraws() => Kind::Withdrawal,
@@ -122,12 +124,14 @@ impl fmt::Display for Question {
     }
 }
 
-/// The kinds of questions, those about each curve and those into a buffer too short for the reply
-/// apart.
+/// The kinds of questions, those about each curve, those into a buffer too short for the reply, and
+/// look-ups of factors and of sums apart.
 #[derive(Clone, Copy, Debug, PartialEq, Eq, PartialOrd, Ord)]
 pub enum Kind {
     LookUp(Which),
     ShortLookUp(Which),
+    Sum(Which),
+    ShortSum(Which),
     Page(Which),
     ShortPage(Which),
     Answer,
@@ -136,11 +140,15 @@ pub enum Kind {
 
 impl Kind {
     /// All kinds, in the order in which they are told.
-    pub const ALL: [Kind; 10] = [
+    pub const ALL: [Kind; 14] = [
         Kind::LookUp(Which::Plain),
         Kind::LookUp(Which::Adjusted),
         Kind::ShortLookUp(Which::Plain),
         Kind::ShortLookUp(Which::Adjusted),
+        Kind::Sum(Which::Plain),
+        Kind::Sum(Which::Adjusted),
+        Kind::ShortSum(Which::Plain),
+        Kind::ShortSum(Which::Adjusted),
         Kind::Page(Which::Plain),
         Kind::Page(Which::Adjusted),
         Kind::ShortPage(Which::Plain),
@@ -149,11 +157,23 @@ impl Kind {
         Kind::Withdrawal,
     ];
 
+    /// The kind of a look-up of this curve and amount, into a buffer that is too short or not.
+    fn of_look_up(which: Which, wanted: Wanted, short: bool) -> Kind {
+        match (wanted, short) {
+            (Wanted::Factor, false) => Kind::LookUp(which),
+            (Wanted::Factor, true) => Kind::ShortLookUp(which),
+            (Wanted::Sum, false) => Kind::Sum(which),
+            (Wanted::Sum, true) => Kind::ShortSum(which),
+        }
+    }
+
     /// The answers that questions of this kind must meet for them to mean something. A page has
     /// no rates. An adjusted curve, which often is missing, must be there for some: they are
-    /// accepted, or the buffer is too short for them.
+    /// accepted, or the buffer is too short for them. Sums meet all of a look-up's answers but 13.
     fn due(self) -> &'static [u64] {
         match self {
+            Kind::Sum(_) => &[0, NO_CURVE, TOO_OLD, NO_HIGH_RATE],
+            Kind::ShortSum(_) => &[SHORT_BUFFER, NO_CURVE, TOO_OLD, NO_HIGH_RATE],
             Kind::LookUp(Which::Adjusted) => &[0, TOO_OLD, NO_HIGH_RATE],
             Kind::ShortLookUp(Which::Adjusted) => &[SHORT_BUFFER, TOO_OLD, NO_HIGH_RATE],
             Kind::Page(Which::Adjusted) => &[0, TOO_OLD],
@@ -168,6 +188,7 @@ impl Kind {
     fn which(self) -> Which {
         match self {
             Kind::LookUp(which) | Kind::ShortLookUp(which) => which,
+            Kind::Sum(which) | Kind::ShortSum(which) => which,
             Kind::Page(which) | Kind::ShortPage(which) => which,
             Kind::Answer | Kind::Withdrawal => Which::Plain,
         }
@@ -179,6 +200,8 @@ impl fmt::Display for Kind {
         let asked = match self {
             Kind::LookUp(_) => "look-ups",
             Kind::ShortLookUp(_) => "look-ups into short buffers",
+            Kind::Sum(_) => "sums",
+            Kind::ShortSum(_) => "sums into short buffers",
             Kind::Page(_) => "pages",
             Kind::ShortPage(_) => "pages into short buffers",
             Kind::Answer => return f.write_str("answers to other records"),
@@ -291,9 +314,8 @@ impl<'a> Case<'a> {
 
     fn second(&self, question: &Question, out: &mut [u8]) -> u64 {
         match question {
-            Question::LookUp { year, .. } => {
-                let year = u32::try_from(*year).unwrap_or(u32::MAX);
-                let found = self.book.look_up(question.which(), year);
+            Question::LookUp { named, year, .. } => {
+                let found = look_up_by(&self.book, *named, *year);
                 code(found.and_then(|found| write_look_up(&found, out)))
             }
             Question::Page { .. } => code(self.book.page(question.which(), out)),
@@ -317,12 +339,12 @@ fn write_look_up(found: &Found, out: &mut [u8]) -> Result<(), Refusal> {
     Ok(())
 }
 
-/// Low and high, 8 bytes each, month and age, 2 bytes each, low rate and high rate, 4 bytes
+/// Low and high of the factor or the sum, 8 bytes each, month and age, 2 bytes each, low rate and high rate, 4 bytes
 /// each in two's complement.
 pub fn look_up_reply(found: &Found) -> [u8; LOOK_UP_LENGTH] {
     let mut reply = [0; LOOK_UP_LENGTH];
-    reply[..8].copy_from_slice(&eight_bytes(found.factor.low));
-    reply[8..16].copy_from_slice(&eight_bytes(found.factor.high));
+    reply[..8].copy_from_slice(&eight_bytes(found.amount.low));
+    reply[8..16].copy_from_slice(&eight_bytes(found.amount.high));
     reply[16..18].copy_from_slice(&found.month.to_be_bytes());
     reply[18..20].copy_from_slice(&found.age.to_be_bytes());
     reply[20..24].copy_from_slice(&found.rates.low.to_be_bytes());
@@ -332,7 +354,7 @@ pub fn look_up_reply(found: &Found) -> [u8; LOOK_UP_LENGTH] {
 
 fn eight_bytes(value: i128) -> [u8; 8] {
     u64::try_from(value)
-        .expect("a factor from 0 to 2 U")
+        .expect("an amount from 0 to 300 U")
         .to_be_bytes()
 }
 
@@ -366,8 +388,8 @@ impl Met {
 
     /// Says what was not met and must be for the questions to mean something: by each of these
     /// kinds but withdrawals ground 16 and, unless it is of pages, 17; of those about adjusted
-    /// curves also one that is there and one that is missing beside a plain one; withdrawals that
-    /// are accepted, and 18; and curves at the limit and a month past it.
+    /// curves also one that is there and one that is missing beside a plain one; sums that are shown,
+    /// and 14; withdrawals that are accepted, and 18; and curves at the limit and a month past it.
     pub fn check(&self, kinds: &[Kind]) -> Result<(), String> {
         let adjusted = kinds.iter().any(|kind| kind.which() == Which::Adjusted);
         if adjusted && self.missing_beside_plain == 0 {

@@ -37,6 +37,10 @@ pub const PLAIN: u64 = 0;
 /// Names the adjusted curve.
 pub const ADJUSTED: u64 = 1;
 
+/// Set beside either in a look-up, names the sum of years 1 to the year in place of its factor. A
+/// page ignores it.
+pub const SUM: u64 = 2;
+
 /// The number of the ground, or 0.
 pub fn look_after(age_limit: u64, calls: &[u8], kind: u64, year: u64, out: &mut [u8]) -> u64 {
     // SAFETY: both slices are valid for their lengths, and a `&mut` overlaps nothing.

@@ -5,21 +5,29 @@ mod asked;
 
 use asked::{looked, page, paged, posted, reply, with, PAGE, REPLY};
 use interface::compare::{Case, Kind, Met, Question};
-use interface::{answer_after, ADJUSTED, PLAIN};
+use interface::{answer_after, ADJUSTED, PLAIN, SUM};
 use reference::adjusted::{adjusted_sheet, typed_adjusted_sheet, Alone, TAIL_GROUNDS};
 use reference::book::LARGEST_AGE_LIMIT;
 use reference::counts::PostCounts;
 use reference::curve::Which;
 use reference::journal::{look_up, post, turn};
-use reference::questions::{age_limits, kind};
+use reference::questions::{age_limits, kind, page_kind};
 use reference::sheet::Sheet;
 use reference::streams::{low_rates, sheet_bytes, steep_sheet, zero_sheet, Random};
+use reference::sums::Wanted;
 
-/// Numbers that name the plain curve: bit 0 alone counts.
-const PLAIN_KINDS: [u64; 6] = [PLAIN, 2, 1 << 8, 1 << 32, 1 << 63, 0xFFFF_FFFF_FFFF_FFFE];
+/// Numbers that name the plain curve's factors: bits 0 and 1 alone count.
+const PLAIN_KINDS: [u64; 6] = [PLAIN, 4, 1 << 8, 1 << 32, 1 << 63, 0xFFFF_FFFF_FFFF_FFFC];
 
-/// Numbers that name the adjusted curve.
-const ADJUSTED_KINDS: [u64; 6] = [ADJUSTED, 3, 257, (1 << 32) + 1, (1 << 63) + 1, u64::MAX];
+/// Numbers that name the adjusted curve's factors.
+const ADJUSTED_KINDS: [u64; 6] = [
+    ADJUSTED,
+    5,
+    257,
+    (1 << 32) + 1,
+    (1 << 63) + 1,
+    u64::MAX - SUM,
+];
 
 fn flat(rate: i16, ufr: u16) -> Sheet {
     Sheet {
@@ -103,10 +111,13 @@ fn bit_0_alone_names_the_curve() {
     assert_ne!(plain, adjusted);
     for kind in PLAIN_KINDS {
         assert_eq!(page(&journal, kind), plain, "{kind:#x}");
+        // A page has no use for the amount.
+        assert_eq!(page(&journal, kind | SUM), plain, "{kind:#x}");
         assert_eq!(reply(&journal, kind, 60), reply(&without, PLAIN, 60));
     }
     for kind in ADJUSTED_KINDS {
         assert_eq!(page(&journal, kind), adjusted, "{kind:#x}");
+        assert_eq!(page(&journal, kind | SUM), adjusted, "{kind:#x}");
         assert_eq!(reply(&journal, kind, 60), reply(&journal, ADJUSTED, 60));
     }
 }
@@ -130,7 +141,7 @@ fn a_missing_adjusted_curve_answers_14() {
     let some = [posted(&zero_sheet(0)), posted(&low_rates(0, Some(20_000)))];
     let replaced = [posted(&with(0, zero_sheet(0))), posted(&zero_sheet(0))].concat();
     for age_limit in age_limits(&mut Random::new(45)) {
-        for kind in ADJUSTED_KINDS {
+        for kind in ADJUSTED_KINDS.into_iter().chain([ADJUSTED | SUM, u64::MAX]) {
             for journal in none.iter().chain(&some).chain([&replaced]) {
                 assert_eq!(looked(age_limit, journal, kind, 1, REPLY), 14);
                 assert_eq!(paged(age_limit, journal, kind, PAGE), 14);
@@ -139,7 +150,7 @@ fn a_missing_adjusted_curve_answers_14() {
             assert_eq!(looked(age_limit, &kept, kind, 1, REPLY), 0);
             assert_eq!(paged(age_limit, &kept, kind, PAGE), 0);
         }
-        for kind in PLAIN_KINDS {
+        for kind in PLAIN_KINDS.into_iter().chain([SUM, u64::MAX - ADJUSTED]) {
             for journal in some.iter().chain([&replaced]) {
                 assert_eq!(looked(age_limit, journal, kind, 1, REPLY), 0);
                 assert_eq!(paged(age_limit, journal, kind, PAGE), 0);
@@ -239,13 +250,13 @@ fn a_post_fails_as_a_whole() {
 /// Look-ups of the years and a page of either curve, and the answers to look-ups.
 fn ask_curves(random: &mut Random, case: &Case, met: &mut Met, years: &[u8]) {
     for which in Which::ALL {
-        let named = kind(random, which);
+        let named = page_kind(random, which);
         for length in [PAGE - 1, PAGE] {
             met.ask(case, &Question::Page { named, length }).unwrap();
         }
         for &year in years {
             let question = Question::LookUp {
-                named: kind(random, which),
+                named: kind(random, which, Wanted::Factor),
                 year: u64::from(year),
                 length: random.one_of(&[REPLY - 1, REPLY]),
             };

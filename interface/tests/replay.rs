@@ -10,9 +10,10 @@ use reference::book::LARGEST_AGE_LIMIT;
 use reference::convergence::TEN_PERCENT;
 use reference::curve::Which;
 use reference::journal::{post, turn};
-use reference::questions::{age_limits, journal, kind};
+use reference::questions::{age_limits, journal, kind, page_kind};
 use reference::sheet::Sheet;
 use reference::streams::{low_rates, sheet, sheet_bytes, worked, Random};
+use reference::sums::Wanted;
 
 const BUFFERS: [usize; 5] = [0, 1_504, 1_505, 1_506, 2_000];
 const LOOK_UP_BUFFERS: [usize; 9] = [0, 1, 12, 20, 26, 27, 28, 29, 60];
@@ -76,7 +77,7 @@ fn pages_agree() {
         let journal = journal(&mut random);
         for case in cases(&mut random, &journal) {
             for (which, length) in of_each_curve(&BUFFERS) {
-                let named = kind(&mut random, which);
+                let named = page_kind(&mut random, which);
                 let answer = met.ask(&case, &Question::Page { named, length });
                 assert!(answer.is_ok(), "journal {number}: {answer:?}");
             }
@@ -98,7 +99,7 @@ fn look_ups_agree() {
             let years = [0, 1, early, 20, 21, 150, 151, random.number()];
             for (which, year) in of_each_curve(&years) {
                 let question = Question::LookUp {
-                    named: kind(&mut random, which),
+                    named: kind(&mut random, which, Wanted::Factor),
                     year,
                     length: random.one_of(&LOOK_UP_BUFFERS),
                 };

@@ -6,13 +6,14 @@ mod asked;
 
 use asked::{band, looked, page, paged, posted, reply, with, PAGE, REPLY};
 use interface::compare::{Case, Kind, Met, Question};
-use interface::{answer_after, ADJUSTED, PLAIN};
+use interface::{answer_after, ADJUSTED, PLAIN, SUM};
 use reference::book::LARGEST_AGE_LIMIT;
 use reference::curve::Which;
 use reference::journal::{look_up, post, turn, withdrawal, NO_RECORD};
-use reference::questions::{age_limits, kind};
+use reference::questions::{age_limits, kind, page_kind};
 use reference::sheet::Sheet;
 use reference::streams::{low_rates, sheet_bytes, steep_sheet, zero_sheet, Random};
+use reference::sums::Wanted;
 use reference::withdrawn::{taken_back, Meeting, Withdrawals};
 
 /// The month that is told in the journals of `posts`.
@@ -64,7 +65,7 @@ fn assert_stands(journal: &[u8], month: u16) {
 
 /// Asserts 14 of look-ups and pages of both curves into buffers of every sort.
 fn assert_no_curve(journal: &[u8]) {
-    for kind in [PLAIN, ADJUSTED, u64::MAX] {
+    for kind in [PLAIN, ADJUSTED, SUM, u64::MAX] {
         for age_limit in [0, LARGEST_AGE_LIMIT] {
             for (year, ground) in [(0, 13), (1, 14), (150, 14), (151, 13)] {
                 for length in [0, REPLY - 1, REPLY] {
@@ -349,20 +350,23 @@ fn any_journal(random: &mut Random) -> Vec<u8> {
     journal
 }
 
-/// Questions of both curves, and the answers to records that go by what stands.
+/// Questions of both curves and both amounts, and the answers to records that go by what stands.
 fn questions(random: &mut Random) -> Vec<Question> {
     let mut questions = Vec::new();
     for which in Which::ALL {
-        let named = kind(random, which);
+        let named = page_kind(random, which);
         for length in [PAGE - 1, PAGE] {
             questions.push(Question::Page { named, length });
         }
-        for (first, last) in [(1, 150), (9, 16)] {
-            questions.push(Question::LookUp {
-                named,
-                year: random.between(first, last) as u64,
-                length: random.one_of(&[REPLY - 1, REPLY]),
-            });
+        for wanted in Wanted::ALL {
+            let named = kind(random, which, wanted);
+            for (first, last) in [(1, 150), (9, 16)] {
+                questions.push(Question::LookUp {
+                    named,
+                    year: random.between(first, last) as u64,
+                    length: random.one_of(&[REPLY - 1, REPLY]),
+                });
+            }
         }
     }
     let month = random.below(8) as u16;

@@ -1,5 +1,5 @@
-//! The book: its age limit, the standing curves with their month, what stood before the latest
-//! accepted posts, and the told month.
+//! The book: its age limit, the standing curves with their sums and their month, what stood before
+//! the latest accepted posts, and the told month.
 
 use std::collections::VecDeque;
 
@@ -9,6 +9,7 @@ use crate::page::Page;
 use crate::rates::ZeroRates;
 use crate::refusal::Refusal;
 use crate::sheet::{Sheet, LAST_MONTH};
+use crate::sums::{Sums, Wanted};
 
 pub use crate::page::PAGE_LENGTH;
 
@@ -19,16 +20,58 @@ pub const LARGEST_AGE_LIMIT: u64 = 2_399;
 /// So many posts can be taken back, one after another.
 pub const DEEPEST: usize = 3;
 
-/// The curves of a sheet and its month.
+/// A curve with its sums. They are made together and move together, so that the sums are those of
+/// the curve after every post and every withdrawal.
+#[derive(Clone, Debug, PartialEq, Eq)]
+struct Summed {
+    curve: Curve,
+    sums: Sums,
+}
+
+impl Summed {
+    fn of(curve: Curve) -> Self {
+        let sums = Sums::of(&curve);
+        Summed { curve, sums }
+    }
+
+    /// The wanted amount of `year`, which is from 1 to 150.
+    fn amount(&self, wanted: Wanted, year: usize) -> Enclosure {
+        match wanted {
+            Wanted::Factor => self.curve.factor(year),
+            Wanted::Sum => self.sums.to(year),
+        }
+    }
+}
+
+/// The curves of a sheet, each with its sums, and its month.
 #[derive(Clone, Debug, PartialEq, Eq)]
 struct Standing {
     month: u16,
-    curves: Curves,
+    plain: Summed,
+    adjusted: Option<Summed>,
+}
+
+impl Standing {
+    fn of(month: u16, curves: Curves) -> Self {
+        Standing {
+            month,
+            plain: Summed::of(curves.plain),
+            adjusted: curves.adjusted.map(Summed::of),
+        }
+    }
+
+    /// The named curve, if the sheet has it.
+    fn get(&self, which: Which) -> Option<&Summed> {
+        match which {
+            Which::Plain => Some(&self.plain),
+            Which::Adjusted => self.adjusted.as_ref(),
+        }
+    }
 }
 
 /// A curve that is shown.
 struct Shown<'a> {
-    curve: &'a Curve,
+    summed: &'a Summed,
     month: u16,
     age: u16,
 }
@@ -48,8 +91,9 @@ pub struct Book {
 /// The answer to a look-up.
 #[derive(Clone, Copy, Debug, PartialEq, Eq)]
 pub struct Found {
-    pub factor: Enclosure,
-    /// Annual zero rates of the year.
+    /// The factor of the year or the sum of years 1 to it, whichever was wanted.
+    pub amount: Enclosure,
+    /// Annual zero rates of the year's factor, whichever was wanted.
     pub rates: ZeroRates,
     /// Month of the sheet behind the curve.
     pub month: u16,
@@ -80,7 +124,7 @@ impl Book {
         }
     }
 
-    /// Replaces the curves by those of the sheet in `bytes` and hands back its month,
+    /// Replaces the curves and their sums by those of the sheet in `bytes` and hands back its month,
     /// or refuses on the first of grounds 1 to 10 and leaves the book unchanged: no plain curve
     /// is kept where the adjusted one fails, and no adjusted one where the sheet has none. A
     /// curve that is too old to be shown still stands in ground 6.
@@ -96,11 +140,8 @@ impl Book {
         {
             return Err(Refusal::plain(6));
         }
-        let curves = Curves::of(&sheet)?;
-        let before = self.standing.replace(Standing {
-            month: sheet.month,
-            curves,
-        });
+        let posted = Standing::of(sheet.month, Curves::of(&sheet)?);
+        let before = self.standing.replace(posted);
         self.remember(before);
         Ok(sheet.month)
     }
@@ -114,9 +155,9 @@ impl Book {
         self.ways_back.push_back(before);
     }
 
-    /// Takes back the latest accepted post that is not withdrawn: curves and month are again what
-    /// stood before it, be it none, and the told month remains. Or refuses on ground 18 and leaves
-    /// the book unchanged.
+    /// Takes back the latest accepted post that is not withdrawn: curves, sums and month are again
+    /// what stood before it, be it none, and the told month remains. Or refuses on ground 18 and
+    /// leaves the book unchanged.
     pub fn withdraw(&mut self) -> Result<(), Refusal> {
         self.standing = self.ways_back.pop_back().ok_or(Refusal::plain(18))?;
         Ok(())
@@ -141,17 +182,28 @@ impl Book {
     }
 
     /// The factor of `year` on the named curve with its rates and its dating, or the first of
-    /// grounds 13, 14, 16 and 17.
+    /// grounds 13, 14, 16 and 17. The desk and a journal's record look up so.
     pub fn look_up(&self, which: Which, year: u32) -> Result<Found, Refusal> {
+        self.look_up_wanted(which, Wanted::Factor, year)
+    }
+
+    /// The wanted amount of `year` on the named curve. Whichever it is, the rates are those of the
+    /// year's factor, and so is ground 17: of a sum neither is asked.
+    pub fn look_up_wanted(
+        &self,
+        which: Which,
+        wanted: Wanted,
+        year: u32,
+    ) -> Result<Found, Refusal> {
         let year = usize::try_from(year)
             .ok()
             .filter(|year| (1..=YEARS).contains(year))
             .ok_or(Refusal::plain(13))?;
         let shown = self.shown(which)?;
-        let factor = shown.curve.factor(year);
+        let factor = shown.summed.curve.factor(year);
         Ok(Found {
-            factor,
             rates: ZeroRates::of(factor, year).ok_or(Refusal::plain(17))?,
+            amount: shown.summed.amount(wanted, year),
             month: shown.month,
             age: shown.age,
         })
@@ -173,7 +225,7 @@ impl Book {
         Ok(Page {
             month: shown.month,
             age: shown.age,
-            factor: |year| shown.curve.factor(year),
+            factor: |year| shown.summed.curve.factor(year),
         })
     }
 
@@ -189,21 +241,21 @@ impl Book {
 
     /// The named curve with what it stands among, or ground 14: no post is accepted and not
     /// withdrawn, or the last such sheet has no adjustment.
-    fn held(&self, which: Which) -> Result<(&Standing, &Curve), Refusal> {
+    fn held(&self, which: Which) -> Result<(&Standing, &Summed), Refusal> {
         let standing = self.standing.as_ref().ok_or(Refusal::plain(14))?;
-        let curve = standing.curves.get(which).ok_or(Refusal::plain(14))?;
-        Ok((standing, curve))
+        let summed = standing.get(which).ok_or(Refusal::plain(14))?;
+        Ok((standing, summed))
     }
 
     /// The named curve with its dating, if it is young enough to be shown; else ground 14 or 16.
     fn shown(&self, which: Which) -> Result<Shown<'_>, Refusal> {
-        let (standing, curve) = self.held(which)?;
+        let (standing, summed) = self.held(which)?;
         let age = self.age(standing);
         if u64::from(age) > self.age_limit {
             return Err(Refusal::plain(16));
         }
         Ok(Shown {
-            curve,
+            summed,
             month: standing.month,
             age,
         })

@@ -57,10 +57,10 @@ fn answer(book: &mut Book, call: &Call) -> String {
     make(book, call).unwrap_or_else(|refusal| refusal.to_string())
 }
 
-/// The desk's look-ups are of the plain curve.
+/// The desk's look-ups are of the plain curve's factors.
 fn look_up_line(book: &Book, year: u8) -> Result<String, Refusal> {
     let found = book.look_up(Which::Plain, u32::from(year))?;
-    let (low, high) = (found.factor.low, found.factor.high);
+    let (low, high) = (found.amount.low, found.amount.high);
     Ok(format!(
         "L {year} {low} {high} {} {}",
         found.month, found.age

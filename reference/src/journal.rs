@@ -3,10 +3,12 @@
 
 use std::io::{self, Read};
 
-use crate::book::Book;
+use crate::book::{Book, Found};
+use crate::curve::Which;
 use crate::desk::{self, LOOK_UP, POST, TURN};
 use crate::records::{Next, RecordReader};
 use crate::refusal::Refusal;
+use crate::sums::Wanted;
 
 /// The kind of a withdrawal, whose record has no body.
 pub const WITHDRAWAL: u8 = 0x57;
@@ -87,6 +89,14 @@ pub fn book_after(age_limit: u64, journal: &[u8]) -> Book {
         _ = make(&mut book, &call);
     }
     book
+}
+
+/// What a look-up of the C interface finds on `book`, where the number `kind` names the curve and
+/// the amount. A year of any size is outside if it is above 150. No record asks so: one of a journal
+/// is of the plain curve's factor.
+pub fn look_up_by(book: &Book, kind: u64, year: u64) -> Result<Found, Refusal> {
+    let year = u32::try_from(year).unwrap_or(u32::MAX);
+    book.look_up_wanted(Which::named_by(kind), Wanted::named_by(kind), year)
 }
 
 /// The answer to the first record of `call` on `book`: 0 where it is accepted, else the

@@ -1,6 +1,6 @@
 //! Second implementation of the dated euro curve book: sheet reading, bootstrap
-//! from par rates, extrapolation, adjustment, zero rates, the book itself, and the true curve of
-//! order n against which the enclosures and the rates are checked.
+//! from par rates, extrapolation, adjustment, zero rates, annuity sums, the book itself, and the
+//! true curve of order n against which the enclosures, the rates and the sums are checked.
 
 pub mod accepted;
 pub mod adjusted;
@@ -28,6 +28,7 @@ pub mod refusal;
 pub mod series;
 pub mod sheet;
 pub mod streams;
+pub mod sums;
 pub mod true_curve;
 pub mod weights;
 pub mod withdrawn;

@@ -7,6 +7,7 @@ use crate::curve::Which;
 use crate::dropped::typed_dropped_sheet;
 use crate::journal::{look_up, post, turn, withdrawal};
 use crate::streams::{sheet, sheet_bytes, steep_sheet, typed_sheet, Random};
+use crate::sums::{kind_of, Wanted};
 use crate::withdrawn::{taken_back, withdrawals};
 
 /// The last month that can be told.
@@ -15,6 +16,9 @@ const LAST_MONTH: u16 = 2_399;
 /// Months of the sheets and turns that are asked about are mostly below this one: near those
 /// that a journal tells.
 const MONTHS: u64 = 2;
+
+/// The bits of a `kind` that have a meaning.
+const MEANT_BITS: u64 = 3;
 
 /// Small age limits are below this one: most ages that journals reach are.
 const SMALL_LIMITS: u64 = 6;
@@ -162,16 +166,23 @@ pub fn age_limits(random: &mut Random) -> [u64; 10] {
     ]
 }
 
-/// A number that names the curve: bit 0 tells which, and others are set in most.
-pub fn kind(random: &mut Random, which: Which) -> u64 {
+/// A number that names the curve and the wanted amount: bits 0 and 1 tell which, and others are set
+/// in most.
+pub fn kind(random: &mut Random, which: Which, wanted: Wanted) -> u64 {
     let others = match random.below(6) {
         0 | 1 => 0,
-        2 => 1 << random.between(1, 63),
+        2 => 1 << random.between(2, 63),
         3 => 1 << 32,
         4 => u64::MAX,
         _ => random.number(),
     };
-    (others & !1) | which as u64
+    (others & !MEANT_BITS) | kind_of(which, wanted)
+}
+
+/// A number that names the curve for a page, which has no use for the amount: it names either.
+pub fn page_kind(random: &mut Random, which: Which) -> u64 {
+    let wanted = random.one_of(&Wanted::ALL);
+    kind(random, which, wanted)
 }
 
 /// The limits at which a curve of `age` is just shown and just too old, and the one above.

@@ -1,5 +1,5 @@
-//! The true curve of order n, whether a curve's enclosures hold it, and whether its own rate
-//! lies between the curve's rates.
+//! The true curve of order n, whether a curve's enclosures hold it, whether its own rate lies
+//! between the curve's rates, and whether its sums lie between the ends of the curve's sums.
 //!
 //! Years from the quotes are exact fractions: the earlier years' sum and the newest
 //! factor share one denominator, below 1,700 bits up to order 3 whichever maturities
@@ -9,7 +9,9 @@
 //! From the logarithm on, exact fractions would grow to millions of digits; there
 //! every value is an interval of fixed-point numbers with 1,024 bits (308 decimal
 //! digits) and outward rounding, and the precision is doubled when a comparison with
-//! a low or a high is undecided. Growth at a rate is an exact fraction in every year.
+//! a low or a high is undecided. Growth at a rate is an exact fraction in every year. A sum is an
+//! exact fraction where its last factor is one: sums of fractions can meet an end that none of
+//! their terms meets, and no interval would decide that.
 
 use crate::bigint::BigInt;
 use crate::convergence::RATE_BOUND;
@@ -19,6 +21,7 @@ use crate::extrapolation::FIRST_SMOOTHING_POINT;
 use crate::interval::Interval;
 use crate::rates::ZeroRates;
 use crate::sheet::{Sheet, MATURITIES, VOLUME_MATURITIES};
+use crate::sums::Sums;
 use crate::weights::HORIZON;
 
 /// Terms of the logarithm's sum at order 0.
@@ -60,6 +63,17 @@ impl Fraction {
         }
     }
 
+    /// The sum with a fraction whose denominator is a multiple of this one, over that denominator.
+    /// The years' fractions are such, each beside the one before it, so that their sums stay short.
+    fn plus_next(&self, next: &Self) -> Self {
+        let more = next.denominator.div_down(&self.denominator);
+        assert!(&more * &self.denominator == next.denominator);
+        Fraction {
+            numerator: &(&self.numerator * &more) + &next.numerator,
+            denominator: next.denominator.clone(),
+        }
+    }
+
     /// The interval of `bits` that holds the fraction.
     fn interval(&self, bits: usize) -> Interval {
         Interval::ratio(&self.numerator, &self.denominator, bits)
@@ -97,6 +111,22 @@ pub struct RateCheck {
     pub between: bool,
 }
 
+/// How the sum of years 1 to one year stands to the true curve's sum.
+#[derive(Clone, Copy, Debug, PartialEq, Eq)]
+pub struct SumCheck {
+    pub year: usize,
+    pub sum: Enclosure,
+    /// Whether low ≤ true sum ≤ high.
+    pub inside: bool,
+}
+
+/// How a curve and its sums stand to the true curve, year by year.
+#[derive(Clone, Debug, PartialEq, Eq)]
+pub struct Checks {
+    pub years: Vec<YearCheck>,
+    pub sums: Vec<SumCheck>,
+}
+
 /// The true curve could not be worked: no multiple is the largest at or below par.
 #[derive(Clone, Copy, Debug, PartialEq, Eq)]
 pub struct NoYearlyFactor {
@@ -112,17 +142,31 @@ pub fn check(
     curve: &Curve,
     order: usize,
 ) -> Result<Vec<YearCheck>, NoYearlyFactor> {
+    Ok(check_all(sheet, which, curve, &Sums::of(curve), order)?.years)
+}
+
+/// Checks every year of `curve`, and every one of the sums, against the same true curve; what
+/// takes long, the true curve, is worked once for both.
+pub fn check_all(
+    sheet: &Sheet,
+    which: Which,
+    curve: &Curve,
+    sums: &Sums,
+    order: usize,
+) -> Result<Checks, NoYearlyFactor> {
     let mut quotes = TrueQuotes::of(sheet, order)?;
     if which == Which::Adjusted {
         quotes.adjust(sheet.adjustment.expect("a sheet with an adjustment"), order);
     }
-    let checks = PRECISIONS
+    let liquid = liquid_checks(curve, sums, &quotes);
+    let later = PRECISIONS
         .iter()
-        .find_map(|&bits| extrapolated_checks(sheet, curve, &quotes, order, bits))
+        .find_map(|&bits| extrapolated_checks(sheet, (curve, sums), &quotes, order, bits))
         .expect("a comparison stays undecided at the highest precision");
-    let liquid = (1..=FIRST_SMOOTHING_POINT)
-        .map(|year| exact_check(year, curve.factor(year), &quotes.factors[year - 1]));
-    Ok(liquid.chain(checks).collect())
+    Ok(Checks {
+        years: [liquid.years, later.years].concat(),
+        sums: [liquid.sums, later.sums].concat(),
+    })
 }
 
 /// The part of the true curve that comes from the quotes.
@@ -184,6 +228,19 @@ impl TrueQuotes {
             *factor = factor.times(&power);
         }
         self.gain = Fraction::new(i128::from(adjustment), RATE_UNIT);
+    }
+}
+
+impl TrueQuotes {
+    /// The sums of years 1 to each year up to 20.
+    fn sums(&self) -> Vec<Fraction> {
+        let mut sum = Fraction::new(0, 1);
+        let liquid = self.factors[..FIRST_SMOOTHING_POINT].iter();
+        let next = |factor| {
+            sum = sum.plus_next(factor);
+            sum.clone()
+        };
+        liquid.map(next).collect()
     }
 }
 
@@ -324,6 +381,28 @@ impl ExactYears {
     }
 }
 
+/// The checks of years 1 to 20, where all is an exact fraction.
+fn liquid_checks(curve: &Curve, sums: &Sums, quotes: &TrueQuotes) -> Checks {
+    let years = (1..).zip(&quotes.factors[..FIRST_SMOOTHING_POINT]);
+    let true_sums = quotes.sums();
+    Checks {
+        years: years
+            .map(|(year, exact)| exact_check(year, curve.factor(year), exact))
+            .collect(),
+        sums: (1..)
+            .zip(&true_sums)
+            .map(|(year, exact)| exact_sum_check(year, sums.to(year), exact))
+            .collect(),
+    }
+}
+
+/// The check of a sum whose true sum is an exact fraction.
+fn exact_sum_check(year: usize, sum: Enclosure, exact: &Fraction) -> SumCheck {
+    let over = |bound: i128| &BigInt::from(bound) * &exact.denominator;
+    let inside = over(sum.low) <= exact.numerator && exact.numerator <= over(sum.high);
+    SumCheck { year, sum, inside }
+}
+
 /// The check of a year whose true factor is an exact fraction.
 fn exact_check(year: usize, factor: Enclosure, exact: &Fraction) -> YearCheck {
     let over = |bound: i128| &BigInt::from(bound) * &exact.denominator;
@@ -366,15 +445,32 @@ fn par(years: usize) -> BigInt {
     &BigInt::from(U) * &BigInt::from(RATE_UNIT).pow(years)
 }
 
+/// What an interval is above an enclosure's low and below its high.
+fn distances(ends: Enclosure, enclosed: &Interval) -> [Interval; 2] {
+    let bits = enclosed.bits();
+    [
+        enclosed.sub(&Interval::integer(ends.low, bits)),
+        Interval::integer(ends.high, bits).sub(enclosed),
+    ]
+}
+
+/// Whether neither distance is below 0, or none if undecided.
+fn inside(distances: &[Interval; 2]) -> Option<bool> {
+    let [below, above] = distances;
+    Some(below.not_negative()? & above.not_negative()?)
+}
+
+/// The check of a sum whose true sum is an interval, or none if undecided.
+fn interval_sum_check(year: usize, sum: Enclosure, enclosed: &Interval) -> Option<SumCheck> {
+    let inside = inside(&distances(sum, enclosed))?;
+    Some(SumCheck { year, sum, inside })
+}
+
 /// The check of a year whose true factor is an interval, or none if undecided.
 fn interval_check(year: usize, factor: Enclosure, enclosed: &Interval) -> Option<YearCheck> {
-    let bits = enclosed.bits();
-    let below = enclosed.sub(&Interval::integer(factor.low, bits));
-    let above = Interval::integer(factor.high, bits).sub(enclosed);
-    let inside = match (below.not_negative(), above.not_negative()) {
-        (Some(not_below), Some(not_above)) => not_below && not_above,
-        _ => return None,
-    };
+    let distances = distances(factor, enclosed);
+    let inside = inside(&distances)?;
+    let [below, above] = distances;
     Some(YearCheck {
         year,
         factor,
@@ -403,16 +499,25 @@ fn interval_rate_check(year: usize, rates: ZeroRates, enclosed: &Interval) -> Op
 /// The checks of years 21 to 150, or none if one is undecided at this precision.
 fn extrapolated_checks(
     sheet: &Sheet,
-    curve: &Curve,
+    (curve, sums): (&Curve, &Sums),
     quotes: &TrueQuotes,
     order: usize,
     bits: usize,
-) -> Option<Vec<YearCheck>> {
-    true_extrapolation(sheet, quotes, order, bits)
-        .iter()
-        .zip(FIRST_SMOOTHING_POINT + 1..=YEARS)
-        .map(|(enclosed, year)| interval_check(year, curve.factor(year), enclosed))
-        .collect()
+) -> Option<Checks> {
+    let mut true_sum = quotes.sums()[FIRST_SMOOTHING_POINT - 1].interval(bits);
+    let mut checks = Checks {
+        years: Vec::new(),
+        sums: Vec::new(),
+    };
+    let factors = true_extrapolation(sheet, quotes, order, bits);
+    for (year, enclosed) in (FIRST_SMOOTHING_POINT + 1..=YEARS).zip(&factors) {
+        let check = interval_check(year, curve.factor(year), enclosed)?;
+        checks.years.push(check);
+        true_sum = true_sum.add(enclosed);
+        let check = interval_sum_check(year, sums.to(year), &true_sum)?;
+        checks.sums.push(check);
+    }
+    Some(checks)
 }
 
 /// True factors of years 21 to 150, in billionths.

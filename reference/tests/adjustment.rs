@@ -17,7 +17,7 @@ use reference::desk::run_desk;
 use reference::enclosure::{Enclosure, U};
 use reference::extrapolation::{last_liquid_forward, log_ultimate};
 use reference::journal::{book_after, look_up, post, turn};
-use reference::questions::{journal, kind};
+use reference::questions::{journal, page_kind};
 use reference::rates::ZeroRates;
 use reference::refusal::Refusal;
 use reference::sheet::Sheet;
@@ -503,8 +503,8 @@ fn both_curves_follow_the_last_accepted_sheet() {
         book.post(&numbers.bytes()).unwrap();
         let expected = curves(&numbers);
         let found = book.look_up(Which::Plain, 60).unwrap();
-        assert_eq!(found.factor, expected.plain.factor(60));
-        let found = book.look_up(Which::Adjusted, 60).map(|found| found.factor);
+        assert_eq!(found.amount, expected.plain.factor(60));
+        let found = book.look_up(Which::Adjusted, 60).map(|found| found.amount);
         let expected = expected.adjusted.map(|curve| curve.factor(60));
         assert_eq!(found, expected.ok_or(Refusal::plain(14)));
         assert_eq!(book.holds(Which::Adjusted), has_adjusted);
@@ -518,7 +518,7 @@ fn a_look_up_gives_the_rates_of_the_adjusted_pair() {
     assert_eq!(book.turn(2), Ok(2));
     for year in 1..=150 {
         let found = book.look_up(Which::Adjusted, year as u32).unwrap();
-        assert_eq!(found.factor, curve.factor(year));
+        assert_eq!(found.amount, curve.factor(year));
         assert_eq!(Some(found.rates), ZeroRates::of(curve.factor(year), year));
         assert_eq!((found.month, found.age), (0, 2));
     }
@@ -782,9 +782,9 @@ fn seeded_sheets_are_refused_for_their_adjusted_curve_alone() {
 fn seeded_kinds_name_their_curve() {
     let mut random = Random::new(606);
     for which in Which::ALL {
-        let kinds: Vec<u64> = (0..300).map(|_| kind(&mut random, which)).collect();
+        let kinds: Vec<u64> = (0..600).map(|_| page_kind(&mut random, which)).collect();
         assert!(kinds.iter().all(|&kind| Which::named_by(kind) == which));
-        for others in [0, 1 << 32, u64::MAX - 1] {
+        for others in [0, 2, 1 << 32, u64::MAX - 3, u64::MAX - 1] {
             assert!(kinds.contains(&(others + which as u64)), "{others:x}");
         }
     }

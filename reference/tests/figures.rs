@@ -442,12 +442,12 @@ fn a_new_post_replaces_the_curve() {
     let mut book = Book::new(LARGEST_AGE_LIMIT);
     book.post(&zero().bytes()).unwrap();
     assert_eq!(
-        book.look_up(Which::Plain, 1).unwrap().factor,
+        book.look_up(Which::Plain, 1).unwrap().amount,
         Enclosure::new(U, U)
     );
     book.post(&flat(3_000).bytes()).unwrap();
     assert_eq!(
-        book.look_up(Which::Plain, 1).unwrap().factor,
+        book.look_up(Which::Plain, 1).unwrap().amount,
         Enclosure::new(970_873_786, 970_873_787)
     );
 }
@@ -488,7 +488,7 @@ fn page_bytes() {
     assert_eq!(long[PAGE_LENGTH..], [9; 3]);
     for year in 1..=150u8 {
         let record = &long[5 + 10 * (usize::from(year) - 1)..][..10];
-        let factor = book.look_up(Which::Plain, u32::from(year)).unwrap().factor;
+        let factor = book.look_up(Which::Plain, u32::from(year)).unwrap().amount;
         assert_eq!(record[..2], [0x59, year]);
         assert_eq!(
             record[2..6],

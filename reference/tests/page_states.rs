@@ -252,7 +252,7 @@ fn each_record_read_back_is_the_look_ups() {
                 continue;
             };
             found += 1;
-            assert_eq!(answer.factor, Enclosure::new(low, high));
+            assert_eq!(answer.amount, Enclosure::new(low, high));
             assert_eq!(state[0], 0x48);
             assert_eq!(number(&state[1..3]), i128::from(answer.month));
             assert_eq!(number(&state[3..5]), i128::from(answer.age));

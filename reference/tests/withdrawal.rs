@@ -69,7 +69,7 @@ fn assert_stands(book: &Book, month: u16) {
     }
     let found = found.expect("a curve stands");
     assert_eq!((found.month, found.age), (month, TOLD - month));
-    assert_eq!(found.factor, year_1(100 * i128::from(month)));
+    assert_eq!(found.amount, year_1(100 * i128::from(month)));
     let mut page = [7; PAGE_LENGTH];
     assert_eq!(book.page(Which::Plain, &mut page), Ok(()));
     assert_eq!(page[..5], [0x48, 0, month as u8, 0, (TOLD - month) as u8]);
@@ -137,7 +137,7 @@ fn three_of_five_posts_are_taken_back() {
     assert_stands(&book, 2);
     let found = book.look_up(Which::Plain, 1).unwrap();
     assert_eq!((found.month, found.age), (2, 8));
-    assert_eq!(found.factor, Enclosure::new(998_003_992, 998_003_993));
+    assert_eq!(found.amount, Enclosure::new(998_003_992, 998_003_993));
     assert_eq!(book.post(&flat_of(1)), Err(Refusal::plain(6)));
     assert_eq!(book.post(&flat_of(2)), Ok(2));
 }
@@ -208,7 +208,7 @@ fn both_curves_come_back_with_their_sheet() {
         for which in Which::ALL {
             assert_eq!(book.holds(which), curves.get(which).is_some());
             for year in 1..=150 {
-                let found = book.look_up(which, year as u32).map(|found| found.factor);
+                let found = book.look_up(which, year as u32).map(|found| found.amount);
                 let expected = curves.get(which).map(|curve| curve.factor(year));
                 assert_eq!(found, expected.ok_or(Refusal::plain(14)));
             }
@@ -623,7 +623,7 @@ fn every_list(three: &Three, length: usize, steps: &impl Fn(&Plain) -> Vec<Step>
 /// Asserts that year 1 is that of the sheet that stands: each has a rate of its own.
 fn assert_stands_as_told(three: &Three) {
     let found = three.book.look_up(Which::Plain, 1);
-    let found = found.map(|found| (found.month, found.factor));
+    let found = found.map(|found| (found.month, found.amount));
     let post = three.plain.posts.last();
     let expected = post.map(|post| (post.month, year_1(100 * i128::from(post.month))));
     assert_eq!(found, expected.ok_or(Refusal::plain(14)));

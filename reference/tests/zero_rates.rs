@@ -371,7 +371,7 @@ fn a_look_up_gives_factor_rates_and_dating() {
         assert_eq!(book.turn(7), Ok(7));
         for year in years() {
             let found = book.look_up(Which::Plain, year as u32).unwrap();
-            assert_eq!(found.factor, curve.factor(year));
+            assert_eq!(found.amount, curve.factor(year));
             assert_eq!(Some(found.rates), ZeroRates::of(curve.factor(year), year));
             assert_eq!((found.month, found.age), (0, 7));
         }

@@ -3,14 +3,15 @@
 //! with an X, whose weights are worked anew in each, with two dropped quotes, and with an
 //! adjustment, whose second curve is paged. Then short journals of posts, and the same with a
 //! withdrawal in place of every third, which tells what a withdrawal costs beside a post. Then pages
-//! of one post's curve.
+//! of one post's curve, and look-ups of its factors and of its sums.
 
 use std::time::{Duration, Instant};
 
-use interface::{page_after, ADJUSTED, PLAIN};
+use interface::compare::LOOK_UP_LENGTH;
+use interface::{look_after, page_after, ADJUSTED, PLAIN, SUM};
 use reference::book::{LARGEST_AGE_LIMIT, PAGE_LENGTH};
 use reference::curve::Which;
-use reference::journal::book_after;
+use reference::journal::{book_after, look_up_by};
 use reference::streams::{accepted_posts, posts_and_withdrawals, Measured};
 
 /// The fastest of these runs counts, as the least disturbed one.
@@ -23,6 +24,10 @@ const TURNS: usize = 400;
 
 /// Pages timed, each by itself.
 const PAGES: usize = 50_000;
+
+/// Look-ups timed, each by itself, and their years: the rates of a late year take more steps.
+const LOOK_UPS: usize = 20_000;
+const LOOK_UP_YEARS: [u64; 3] = [1, 20, 150];
 
 fn main() {
     let posts = std::env::args()
@@ -43,7 +48,11 @@ fn main() {
     ] {
         time_withdrawals(sheets, measured, named);
     }
-    time_pages(&accepted_posts(SEED, 1, Measured::Plain));
+    let one_post = accepted_posts(SEED, 1, Measured::Plain);
+    time_pages(&one_post);
+    for year in LOOK_UP_YEARS {
+        time_look_ups(&one_post, year);
+    }
 }
 
 /// What a journal and a page took: in the proved library, and in the second implementation.
@@ -148,6 +157,33 @@ fn time_pages(journal: &[u8]) {
         whole - refused,
         1e6 / (whole - refused),
         1e6 / plain
+    );
+}
+
+/// Factor and sum are looked up by turns. The journal's time is taken off here too: that of the same
+/// call for the adjusted curve, which the sheet has not, so that it is refused as soon as the journal
+/// is replayed.
+fn time_look_ups(journal: &[u8], year: u64) {
+    let book = book_after(LARGEST_AGE_LIMIT, journal);
+    let mut out = [0; LOOK_UP_LENGTH];
+    let mut look = |kind| time(|| look_after(LARGEST_AGE_LIMIT, journal, kind, year, &mut out));
+    let mut refused = Vec::new();
+    let (mut proved, mut plain) = ([vec![], vec![]], [vec![], vec![]]);
+    for _ in 0..LOOK_UPS {
+        refused.push(look(ADJUSTED));
+        for (at, kind) in [PLAIN, PLAIN | SUM].into_iter().enumerate() {
+            proved[at].push(look(kind));
+            plain[at].push(time(|| look_up_by(&book, kind, year)));
+        }
+    }
+    let refused = usual(refused);
+    let [factor, sum] = proved.map(|times| usual(times) - refused);
+    let [plain_factor, plain_sum] = plain.map(usual);
+    println!(
+        "a look-up of year {year} after one post, which takes {refused:.2} µs: proved factor {factor:.2} µs, \
+         sum {sum:.2} µs, ratio {:.2}; plain Rust factor {plain_factor:.2} µs, sum {plain_sum:.2} µs, ratio {:.2}",
+        sum / factor,
+        plain_sum / plain_factor
     );
 }
 

@@ -1,11 +1,11 @@
 //! Asks the proved library and the second implementation the same questions after seeded
-//! journals, each under several age limits and about both curves, which are named by numbers of
-//! every sort, and compares answers and buffers. It prints how often each kind of question met
-//! each ground, what became of posts with dropped quotes or adjustments and what the journals'
-//! withdrawals met, and fails where one never met 16, where one that asks for rates never met 17,
-//! where no adjusted curve was shown or missing, where no sheet was accepted with some gap that
-//! runs on over a dropped maturity, or with some tail, or where some sort of withdrawal was not
-//! met.
+//! journals, each under several age limits and about factors and sums of both curves, which are
+//! named by numbers of every sort, and compares answers and buffers. It prints how often each kind
+//! of question met each ground, what became of posts with dropped quotes or adjustments and what
+//! the journals' withdrawals met, and fails where one never met 16, where one that asks for rates
+//! never met 17, where no adjusted curve was shown or missing, where no sum was shown or refused
+//! with 14, where no sheet was accepted with some gap that runs on over a dropped maturity, or with
+//! some tail, or where some sort of withdrawal was not met.
 //!
 //!     differential [SEED [POSTS]]
 
@@ -16,8 +16,9 @@ use interface::compare::{Case, Kind, Met, Question};
 use reference::counts::PostCounts;
 use reference::curve::Which;
 use reference::journal::calls;
-use reference::questions::{age_limits, call, journal, kind, limits_around};
+use reference::questions::{age_limits, call, journal, kind, limits_around, page_kind};
 use reference::streams::Random;
+use reference::sums::Wanted;
 use reference::withdrawn::Withdrawals;
 
 /// Buffers for look-ups, whose reply has 28 bytes.
@@ -142,29 +143,39 @@ fn questions(random: &mut Random) -> Vec<Question> {
     questions
 }
 
-/// Look-ups of three years, the first one often outside the curve and the last one early, where
-/// steep curves have no high rate; and two pages.
-fn questions_about(random: &mut Random, which: Which) -> [Question; 5] {
+/// A look-up of a year that often is outside the curve, for either amount; for each amount one of any
+/// year and one of an early year, where steep curves have no high rate; and two pages.
+fn questions_about(random: &mut Random, which: Which) -> Vec<Question> {
     // 2^32 + 20 is outside as well, whatever its low bits are.
     let first = random.one_of(&[0, 151, 255, 256, (1 << 32) + 20, u64::MAX, 1, 20, 150]);
-    [
-        look_up(random, which, first),
-        look_up_of(random, which, 1, 150),
-        look_up_of(random, which, 9, 16),
+    let either = random.one_of(&Wanted::ALL);
+    let mut questions = vec![
+        look_up(random, which, either, first),
         page(random, which),
         page(random, which),
-    ]
+    ];
+    for wanted in Wanted::ALL {
+        questions.push(look_up_of(random, which, wanted, 1, 150));
+        questions.push(look_up_of(random, which, wanted, 9, 16));
+    }
+    questions
 }
 
 /// A look-up of a year from `first` to `last`.
-fn look_up_of(random: &mut Random, which: Which, first: i64, last: i64) -> Question {
+fn look_up_of(
+    random: &mut Random,
+    which: Which,
+    wanted: Wanted,
+    first: i64,
+    last: i64,
+) -> Question {
     let year = random.between(first, last) as u64;
-    look_up(random, which, year)
+    look_up(random, which, wanted, year)
 }
 
-fn look_up(random: &mut Random, which: Which, year: u64) -> Question {
+fn look_up(random: &mut Random, which: Which, wanted: Wanted, year: u64) -> Question {
     Question::LookUp {
-        named: kind(random, which),
+        named: kind(random, which, wanted),
         year,
         length: random.one_of(&LOOK_UP_BUFFERS),
     }
@@ -172,7 +183,7 @@ fn look_up(random: &mut Random, which: Which, year: u64) -> Question {
 
 fn page(random: &mut Random, which: Which) -> Question {
     Question::Page {
-        named: kind(random, which),
+        named: page_kind(random, which),
         length: random.one_of(&PAGE_BUFFERS),
     }
 }

@@ -2,8 +2,9 @@
 //! for byte, with this implementation's; fails where no look-up was turned down on 17, where no
 //! sheet was accepted with some gap that runs on over a dropped maturity, or where some tail of a
 //! sheet, or a refusal for the adjusted curve alone, was not met. Then checks on sampled sheets
-//! that the bands of the plain and the adjusted curve hold their true factors of orders 0 to 3 and
-//! that the true curves' own rates lie between the rates.
+//! that the bands of the plain and the adjusted curve hold their true factors of orders 0 to 3,
+//! that the true curves' own rates lie between the rates, and that their sums of years 1 to each
+//! year lie between the ends of the sums.
 //!
 //!     differential DESK [SEED [POSTS [SAMPLES]]]
 
@@ -11,6 +12,7 @@ use std::io::Write;
 use std::process::{Command, ExitCode, Stdio};
 
 use reference::adjusted::adjusted_sheet;
+use reference::book::Book;
 use reference::counts::PostCounts;
 use reference::curve::{Curve, Curves, Which, YEARS};
 use reference::desk::run_desk;
@@ -19,7 +21,8 @@ use reference::journal::calls;
 use reference::rates::ZeroRates;
 use reference::sheet::Sheet;
 use reference::streams::{sheet, sheet_bytes, steep_sheet, stream, worked, Random};
-use reference::true_curve::check;
+use reference::sums::{Sums, Wanted};
+use reference::true_curve::check_all;
 
 /// Records in a stream; about four in ten are posts.
 const RECORDS: usize = 1_000;
@@ -45,6 +48,10 @@ struct Checked {
     adjusted: u64,
     years_with_rates: u64,
     years_without: u64,
+    /// Sums, each against the true ones of all orders, and those of them that are wider than the
+    /// sheet's limit, which is the factors' alone.
+    sums: u64,
+    wide_sums: u64,
     counts: PostCounts,
 }
 
@@ -71,12 +78,14 @@ fn main() -> ExitCode {
             println!(
                 "desks agree; the plain curves of {} sheets, {} with dropped quotes, and {} \
                  adjusted ones hold their true factors of orders 0 to 3, and {} of their years the \
-                 true rates, {} have none",
+                 true rates, {} have none; {} sums hold the true ones, {} of them wider than the limit",
                 checked.sheets,
                 checked.counts.dropped.all.accepted,
                 checked.adjusted,
                 checked.years_with_rates,
-                checked.years_without
+                checked.years_without,
+                checked.sums,
+                checked.wide_sums
             );
             ExitCode::SUCCESS
         }
@@ -189,9 +198,14 @@ fn check_truth(seed: u64, samples: u64) -> Result<Checked, String> {
 }
 
 fn check_sheet(sheet: &Sheet, curves: &Curves, checked: &mut Checked) -> Result<(), String> {
+    let mut book = Book::new(0);
+    book.post(&sheet_bytes(sheet))
+        .map_err(|refusal| format!("{refusal}: {sheet:?}"))?;
     for which in Which::ALL {
         if let Some(curve) = curves.get(which) {
-            check_curve(sheet, which, curve, checked)?;
+            let sums = Sums::of(curve);
+            check_curve(sheet, which, curve, &sums, checked)?;
+            check_held(&book, which, &sums).map_err(|text| format!("{text}: {sheet:?}"))?;
         }
     }
     checked.adjusted += u64::from(curves.adjusted.is_some());
@@ -200,7 +214,7 @@ fn check_sheet(sheet: &Sheet, curves: &Curves, checked: &mut Checked) -> Result<
     if checked.sheets.is_multiple_of(50) {
         let (sheets, adjusted) = (checked.sheets, checked.adjusted);
         eprintln!(
-            "{sheets} sheets, {adjusted} of them adjusted, hold their true factors and rates"
+            "{sheets} sheets, {adjusted} of them adjusted, hold their true factors, rates and sums"
         );
     }
     Ok(())
@@ -210,17 +224,36 @@ fn check_curve(
     sheet: &Sheet,
     which: Which,
     curve: &Curve,
+    sums: &Sums,
     checked: &mut Checked,
 ) -> Result<(), String> {
     for order in 0..ORDERS {
-        let years = check(sheet, which, curve, order).map_err(|e| format!("{e:?}"))?;
-        if let Some(year) = years.iter().find(|year| !year.holds()) {
+        let checks = check_all(sheet, which, curve, sums, order).map_err(|e| format!("{e:?}"))?;
+        if let Some(year) = checks.years.iter().find(|year| !year.holds()) {
             return Err(format!("order {order}, {which:?}, {year:?}: {sheet:?}"));
         }
+        if let Some(sum) = checks.sums.iter().find(|sum| !sum.inside) {
+            return Err(format!("order {order}, {which:?}, {sum:?}: {sheet:?}"));
+        }
     }
+    let wide = |&year: &usize| sums.to(year).width() > i128::from(sheet.limit);
+    checked.wide_sums += (1..=YEARS).filter(wide).count() as u64;
+    checked.sums += YEARS as u64;
     let with_rates = |&year: &usize| ZeroRates::of(curve.factor(year), year).is_some();
     let with_rates = (1..=YEARS).filter(with_rates).count();
     checked.years_with_rates += with_rates as u64;
     checked.years_without += (YEARS - with_rates) as u64;
+    Ok(())
+}
+
+/// Whether the sums are those that the book of the sheet holds, in every year that it shows.
+fn check_held(book: &Book, which: Which, sums: &Sums) -> Result<(), String> {
+    for year in 1..=YEARS {
+        let found = book.look_up_wanted(which, Wanted::Sum, year as u32);
+        let other = found.ok().filter(|found| found.amount != sums.to(year));
+        if let Some(found) = other {
+            return Err(format!("{which:?}, sum of year {year}: {found:?}"));
+        }
+    }
     Ok(())
 }

@@ -38,7 +38,7 @@ fn standing(book: &Book) -> String {
         Err(refusal) => format!("refused: {}", refusal.number),
         Ok(found) => format!(
             "month {}, age {}, year 20 {} {}",
-            found.month, found.age, found.factor.low, found.factor.high
+            found.month, found.age, found.amount.low, found.amount.high
         ),
     }
 }
