@@ -46,6 +46,7 @@ typedef struct {
 
 typedef struct {
     Pair factors[YEARS + 1]; /* by year; 0 is not used */
+    Pair sums[YEARS + 1];
 } Curve;
 
 typedef struct {
@@ -521,6 +522,16 @@ static Ground work_curves(const Sheet *sheet, Curve *plain, Curve *adjusted) {
 
 /* The book [7]. */
 
+/* The desk shows no sums. They are held all the same, for every year. */
+static void add_up(Curve *curve) {
+    Pair sum = {0, 0};
+    for (int year = 1; year <= YEARS; year++) {
+        sum.low += curve->factors[year].low;
+        sum.high += curve->factors[year].high;
+        curve->sums[year] = sum;
+    }
+}
+
 static Ground post(Book *book, const uint8_t *bytes, size_t length) {
     Sheet sheet;
     Curve plain, adjusted;
@@ -531,7 +542,11 @@ static Ground post(Book *book, const uint8_t *bytes, size_t length) {
     found = work_curves(&sheet, &plain, &adjusted);
     if (found.number) return found;
     book->plain = plain;
-    if (sheet.is_adjusted) book->adjusted = adjusted;
+    add_up(&book->plain);
+    if (sheet.is_adjusted) {
+        book->adjusted = adjusted;
+        add_up(&book->adjusted);
+    }
     book->month = sheet.month;
     book->has_curve = true;
     book->has_adjusted = sheet.is_adjusted;

@@ -34,6 +34,18 @@ largestAgeLimit = 2_399
 abbrev pub fresh : ℕ → Book
 fresh limit = record { ageLimit = min limit largestAgeLimit; told = 0; standing = none; history = noPosts }
 
+-- ---- the curve that a question names: none where no sheet stands, and no adjusted one where the sheet had none
+
+abbrev pub named : Which → Standing → Held Curve
+named w none = none
+named w (some k) = curveNamed w (k .curves)
+
+-- and its sums
+abbrev pub sumsNamed : Which → Standing → Held Sums
+sumsNamed w none = none
+sumsNamed plain (some k) = some (k .plainSums)
+sumsNamed adjusted (some k) = k .adjustedSums
+
 -- ---- a call that may change the book: the book after it, and what it answers
 
 pub record Booked (B : Type 0) : Type 0 where
@@ -101,18 +113,6 @@ withHistory b h = record { ageLimit = b .ageLimit; told = b .told; standing = st
 
 unfoldable pub withdraw : Book → Booked (Unit {0})
 withdraw b = booked b (withHistory b) (λ h. tt) (wayBack (b .history .below))
-
--- ---- the curve that a question names: none where no sheet stands, and no adjusted one where the sheet had none
-
-abbrev pub named : Which → Standing → Held Curve
-named w none = none
-named w (some k) = curveNamed w (k .curves)
-
--- and its sums
-abbrev pub sumsNamed : Which → Standing → Held Sums
-sumsNamed w none = none
-sumsNamed plain (some k) = some (k .plainSums)
-sumsNamed adjusted (some k) = k .adjustedSums
 
 -- ---- what may be shown of a curve, or none, at a told month and with an age limit: 14, 16
 
