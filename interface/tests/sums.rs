@@ -97,6 +97,7 @@ fn figures_of_the_zero_sheet() {
         let low = year * U - year * (year + 1) / 2;
         assert_eq!(sum(&journal, ADJUSTED, year), (low, year * U));
     }
+    // G(U) is 0 to 1.
     assert_eq!(sum(&journal, PLAIN, 22), (22 * U - 24, 22 * U + 25));
     let all = sum(&journal, PLAIN, 150);
     assert_eq!(all, (149_999_931_880, 150_000_076_505));

@@ -149,7 +149,7 @@ fn sums_of_the_zero_sheet() {
         let lost = i128::from(year * (year + 1) / 2);
         assert_eq!(ends(&book, Which::Adjusted, year), (whole - lost, whole));
     }
-    // 8 less and 8 more, then 16 less and 17 more.
+    // 8 less and 8 more, then 16 less and 17 more: G(U) is 0 to 1, and E(0) is U to U + 1.
     assert_eq!(ends(&book, Which::Plain, 21), (21 * U - 8, 21 * U + 8));
     assert_eq!(ends(&book, Which::Plain, 22), (22 * U - 24, 22 * U + 25));
     assert_eq!(

@@ -17,7 +17,7 @@ use Rattle.ledger.specs.Sums.{Sums, runningFrom, sumsOf, sumsOfHeld}
 use Rattle.ledger.specs.Book.{sumAt}
 use Rattle.ledger.specs.Count.{offsets}
 use Rattle.ledger.specs.Tells.{sumTo}
-use Rattle.ledger.specs.Demands.{sumsIn, sumsInHeld}
+use Rattle.ledger.specs.Demands.{everyYear, sumsIn, sumsInHeld}
 
 -- ---- running sums, by the year: what was there at first is the sum to year i, and the numbers are those of the years after it
 
@@ -41,7 +41,7 @@ at-year f i (suc n) (suc k) h = at-year f (i + 1) n k (omega arith) ∙ ap f (om
 -- ---- of a curve that has its 150 years
 
 -- one side
-side-is : (f : ℕ → ℕ) (xs : List ℕ) → length xs ≡ 150 → ((k : ℕ) → getD xs k 0 ≡ f (suc k)) → runningFrom 0 xs ≡ map (sumTo f) (offsets 1 1 150)
+side-is : (f : ℕ → ℕ) (xs : List ℕ) → length xs ≡ 150 → ((k : ℕ) → getD xs k 0 ≡ f (suc k)) → runningFrom 0 xs ≡ map (sumTo f) everyYear
 unfolding sumTo
 side-is f xs long h =
     running-is f 0 0 xs refl (λ k l. h k ∙ ap f (omega arith))

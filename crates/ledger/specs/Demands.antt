@@ -43,8 +43,12 @@ TurnCloses b = (w : Which) (v : Wanted) (y m : ℕ) (f : Finding) →
 -- ═══ After every list of calls the sums that the book holds are those of its curves: for each curve, and for each year t of 1 to 150, the
 -- sum of its lows of years 1 to t, and that of its highs
 
+-- 1, 2, .. 150
+abbrev pub everyYear : List ℕ
+everyYear = offsets 1 1 150
+
 abbrev pub sumsIn : Curve → Sums
-sumsIn c = record { lows = map (sumTo (lowOf c)) (offsets 1 1 150); highs = map (sumTo (highOf c)) (offsets 1 1 150) }
+sumsIn c = record { lows = map (sumTo (lowOf c)) everyYear; highs = map (sumTo (highOf c)) everyYear }
 
 abbrev pub sumsInHeld : Held Curve → Held Sums
 sumsInHeld none = none
