@@ -86,11 +86,15 @@ fn nothing_stands() -> Standing
 {
     Standing {
         has: false,
-        summed: sums::with_sums(Curves {
-            plain: curve::no_curve(),
-            adjusts: false,
-            adjusted: curve::no_curve(),
-        }),
+        summed: Summed {
+            curves: Curves {
+                plain: curve::no_curve(),
+                adjusts: false,
+                adjusted: curve::no_curve(),
+            },
+            plain: sums::no_sums(),
+            adjusted: sums::no_sums(),
+        },
     }
 }
 

@@ -48,16 +48,23 @@ fn of_curve(curve: Curve) -> Sums
     }
 }
 
+// What stands beside a curve that is not there.
+pub fn no_sums() -> Sums
+    ensures { λ r. ⌜ asSums r ≡ noSums ⌝ }
+{
+    Sums {
+        lows: [0; 150],
+        highs: [0; 150],
+    }
+}
+
 // Of a curve that may not be there.
 fn of_held(has: bool, curve: Curve) -> Sums
     ensures sums { λ r. ⌜ asHeldSums has r ≡ sumsOfHeld (asHeld has curve) ⌝ }
     ensures unused { λ r. ⌜ (has ≡ false → asSums r ≡ noSums) ⌝ }
 {
     if !has {
-        return Sums {
-            lows: [0; 150],
-            highs: [0; 150],
-        };
+        return no_sums();
     }
     of_curve(curve)
 }
