@@ -10,7 +10,7 @@ use Rattle.fraction.specs.Rounding.{U}
 use Rattle.method.specs.Units.{Pair, pair, signedPair}
 use Rattle.method.specs.Quotes.{highestFactor}
 use Rattle.method.specs.Series.{growth, growthLow, growthHigh}
-use Rattle.method.specs.Extrapolation.{step, steps}
+use Rattle.method.specs.Extrapolation.{stepWith, step, stepsWith, steps}
 use Rattle.method.proofs.Quotients.{ceilDiv-≤}
 use Rattle.method.proofs.SeriesBounds.{smallGrowth, small-growths}
 use Rattle.extrapolation.specs.Extrapolated.{stepBy, stepRange}
@@ -18,7 +18,7 @@ use Rattle.adjustment.specs.Adjusting.{stepsBy, Small}
 
 -- both ends by themselves
 pub steps-ends : (f : ℤ) (t : ℕ) (p : Pair) → steps (signedPair f f) t p ≡ pair (stepsBy false f t (p .low)) (stepsBy true f t (p .high))
-unfolding steps step stepsBy
+unfolding stepsWith stepWith stepsBy
 steps-ends f zero p = refl
 steps-ends f (suc t) p = steps-ends f t (step (signedPair f f) p)
 

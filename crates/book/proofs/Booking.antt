@@ -12,7 +12,7 @@ use Rattle.method.specs.Grounds.{Ground, afterToldMonth, beforeStandingCurve, m
 use Rattle.method.specs.Grounds.{Outcome, refused, done, _>>=_, demand}
 use Rattle.method.specs.Sheet.{Numbers, readSheet, layoutOf}
 use Rattle.method.specs.Units.{plain, adjusted}
-use Rattle.method.specs.Curve.{Curves, Held, none, some, curvesOf, answer}
+use Rattle.method.specs.Curve.{Curves, Held, none, some, curvesOf, answerWith, answer}
 use Rattle.method.proofs.Reading.{read-passes}
 use Rattle.method.proofs.Layouts.{sizeBy, size-is, any-length}
 use Rattle.ledger.specs.History.{History, wayBack}
@@ -215,21 +215,21 @@ saying b m = record { book = b; answer = done m }
 
 module _ (s : List ℕ) where
   pub not-read : {g : Ground} → readSheet s ≡ refused g → none ≡ ifWorked (answer s)
-  unfolding answer
+  unfolding answerWith
   not-read e = rw e
 
   module _ {n : Numbers} (read : readSheet s ≡ done n) where
     pub not-worked : {g : Ground} → curvesOf n ≡ refused g → none ≡ ifWorked (answer s)
-    unfolding answer
+    unfolding answerWith
     not-worked e = rw (read, e)
 
     pub worked-to : {cs : Curves} → curvesOf n ≡ done cs → some (summedOf cs) ≡ ifWorked (answer s)
-    unfolding answer
+    unfolding answerWith
     worked-to e = rw (read, e)
 
 -- no bytes are no sheet
 none-works : ifWorked (answer []) ≡ none
-unfolding answer readSheet
+unfolding answerWith readSheet
 none-works = rw (any-length [])
 
 -- a length past the bytes is cut to them

@@ -14,7 +14,7 @@ use Rattle.method.specs.Series.{ultimateForward}
 use Rattle.method.specs.Extrapolation.{llfr, weights, extrapolate, adjustedYears, firstRaised, firstTooWide}
 use Rattle.method.specs.Curve as method
 use Rattle.method.specs.Curve.{Curve, none, some, Curves, smoothingYear, usedQuotes, gapForwards, factorOf}
-use Rattle.method.specs.Curve.{withinLimit, extended, curveOf, adjustedCurve, curvesOf}
+use Rattle.method.specs.Curve.{withinLimit, extendedWith, curveOfWith, adjustedCurveWith, curvesOfWith, curvesOf}
 use Rattle.method.proofs.Outcome.{bind-assoc}
 use Rattle.method.proofs.Zips.{zip-left, zip-right}
 use Rattle.grounds.specs.Verdicts.{asOutcome, resultOr}
@@ -46,12 +46,12 @@ module _ (n : Numbers) (f : SignedPair) (quoted : List Pair) (twenty : length qu
   laterYears = extrapolate (ultimateForward (n .ultimate)) f (weights (factorOf n) 130) (smoothingYear + 1) (lastYear quoted)
 
   pub later-refused : {g : Ground} → laterYears ≡ refused g → curveFrom n f quoted ≡ refused g
-  unfolding extended
+  unfolding extendedWith
   later-refused e = rw (twenty, e)
 
   pub years-banded : (lows highs : List ℕ) → length lows ≡ length highs → take smoothingYear (pairsOf lows highs) ≡ quoted →
       laterYears ≡ done (drop smoothingYear (pairsOf lows highs)) → curveFrom n f quoted ≡ banded (curveWith n lows highs)
-  unfolding extended withinLimit
+  unfolding extendedWith withinLimit
   years-banded lows highs same first later =
       let low = zip-left pair (λ p. p .low) (λ l h. refl) lows highs same in
       let high = zip-right pair (λ p. p .high) (λ l h. refl) lows highs same in
@@ -73,12 +73,12 @@ module _ (n : Numbers) (gs : List SignedPair) (quoted : List Pair) where
 
 module _ (n : Numbers) where
   pub quotes-refused : {g : Ground} → bootstrap (usedQuotes n) ≡ refused g → curvesOf n ≡ refused g
-  unfolding curvesOf curveOf
+  unfolding curvesOfWith curveOfWith
   quotes-refused e = rw e
 
   -- the bootstrap is the same for both
   pub curves-from : (b : Bootstrap) → bootstrap (usedQuotes n) ≡ done b → curvesOf n ≡ curvesFrom n (gapForwards n b) (take smoothingYear (b .factors))
-  unfolding curvesOf curveOf adjustedCurve
+  unfolding curvesOfWith curveOfWith adjustedCurveWith
   curves-from b d = rw (d, same (n .adjusts))
     where
       same : (t : Bool) → method.adjustedIf t n ≡ adjustedIf t n (gapForwards n b) (take smoothingYear (b .factors))

@@ -3,7 +3,7 @@ use mathlib.Core.List.{List, [], _∷_, _++_}
 use mathlib.Core.Path.{_≡_, refl}
 use Prim.Native.Nat.{ℕ}
 use lib.ListN.{replicate}
-use Rattle.figures.specs.Figures.{sheetOf, rateRecords, volumeRecords, zeroSheet}
+use Rattle.figures.specs.Figures.{sheetOf, rateRecords, volumeRecords, threePercent}
 use Rattle.method.proofs.Computes.{computes}
 use Rattle.zero_rates.proofs.Computes.{rates-compute}
 use Rattle.ledger.specs.Book.{post, postOutcome, turn, turnOutcome, lookIn}
@@ -61,17 +61,17 @@ nothing-at-all = refl
 
 -- ---- a sheet
 
--- month 5 is told, the zero sheet posted, year 21 looked up: M 5, P 0, L 21 999999992 1000000008 0 5
+-- month 5 is told, the sheet of 3% posted, year 21 looked up: M 5, P 0, L 21 537549266 537549282 0 5
 found : List ℕ
 found =
     (0x4D ∷ 0x20 ∷ 0x35 ∷ 0x0A ∷ [])
     ++ (0x50 ∷ 0x20 ∷ 0x30 ∷ 0x0A ∷ [])
     ++ (0x4C ∷ 0x20 ∷ 0x32 ∷ 0x31 ∷ [])
-    ++ (0x20 ∷ 0x39 ∷ 0x39 ∷ 0x39 ∷ 0x39 ∷ 0x39 ∷ 0x39 ∷ 0x39 ∷ 0x39 ∷ 0x32 ∷ [])
-    ++ (0x20 ∷ 0x31 ∷ 0x30 ∷ 0x30 ∷ 0x30 ∷ 0x30 ∷ 0x30 ∷ 0x30 ∷ 0x30 ∷ 0x30 ∷ 0x38 ∷ [])
+    ++ (0x20 ∷ 0x35 ∷ 0x33 ∷ 0x37 ∷ 0x35 ∷ 0x34 ∷ 0x39 ∷ 0x32 ∷ 0x36 ∷ 0x36 ∷ [])
+    ++ (0x20 ∷ 0x35 ∷ 0x33 ∷ 0x37 ∷ 0x35 ∷ 0x34 ∷ 0x39 ∷ 0x32 ∷ 0x38 ∷ 0x32 ∷ [])
     ++ (0x20 ∷ 0x30 ∷ 0x20 ∷ 0x35 ∷ 0x0A ∷ [])
 
-told-posted-found : printed (0x4D ∷ 0x00 ∷ 0x05 ∷ 0x50 ∷ 0x00 ∷ 109 ∷ zeroSheet 100_000 ++ (0x4C ∷ 21 ∷ [])) ≡ found
+told-posted-found : printed (0x4D ∷ 0x00 ∷ 0x05 ∷ 0x50 ∷ 0x00 ∷ 109 ∷ threePercent 100_000 ++ (0x4C ∷ 21 ∷ [])) ≡ found
 unfolding opens found
 told-posted-found = refl
 

@@ -1,4 +1,5 @@
--- SPECIFICATION 12: the figures marked *, those marked +, those of the phase-in, of dropped quotes and of the adjustment, each as one list.
+-- SPECIFICATION 12: the figures marked *, those marked +, those of the phase-in, of dropped quotes and of the adjustment, each as one list;
+-- and those that a known logarithm or growth had earlier, at slack 1.
 use mathlib.Core.Path.{_≡_}
 use mathlib.Core.List.{List, [], _∷_, _++_, map}
 use Prim.Native.Nat.{ℕ, zero, suc, _+_, _-_}
@@ -10,9 +11,10 @@ use Rattle.method.specs.Units.{Which, plain, adjusted, Pair, pair, SignedPair}
 use Rattle.method.specs.Grounds.{numberOf, placeOf, Outcome, refused, done}
 use Rattle.method.specs.Sheet.{maturities, volumeMaturities}
 use Rattle.method.specs.Quotes.{Bootstrap, bootstrap, quotesOf}
-use Rattle.method.specs.Series.{G, growthLow, growthHigh}
+use Rattle.method.specs.Series.{GWith, G, growthLow, growthHighWith, growthHigh}
 use Rattle.method.specs.Extrapolation.{convergenceFactor, weights}
 use Rattle.method.specs.Curve.{Curve, Held, none, some, Curves, curveNamed, answer}
+use Rattle.method.specs.Earlier.{earlierAnswer}
 
 -- ---- sheets, byte by byte
 
@@ -143,21 +145,19 @@ marked =
     ∷ (ends (factorsOf (bootstrap (quotesOf (1 ∷ 2 ∷ []) (pos 3_000 ∷ pos 3_000 ∷ [])))) is (970_873_786 ∷ 970_873_787 ∷ 942_595_909 ∷ 942_595_910 ∷ []))
     ∷ (ends (factorsOf (bootstrap (quotesOf (1 ∷ []) (negsuc 499 ∷ [])))) is (1_005_025_125 ∷ 1_005_025_126 ∷ []))
     -- G(U), E(0), the high of E(1)
-    ∷ (signedEnds (G U) is (0 ∷ 1 ∷ []))
-    ∷ (ends (pair (growthLow 0) (growthHigh 0) ∷ []) is (U ∷ 1_000_000_001 ∷ []))
+    ∷ (signedEnds (G U) is (0 ∷ 0 ∷ []))
+    ∷ (ends (pair (growthLow 0) (growthHigh 0) ∷ []) is (U ∷ U ∷ []))
     ∷ (pos (growthHigh 1) ∷ [] is (1_000_000_008 ∷ []))
-    -- the zero sheet: years 1 to 20; 21 and 22; its limit
-    ∷ (ends (yearsOf plain 1 20 (answer (zeroSheet 100_000))) is replicate 40 U)
-    ∷ (ends (yearsOf plain 21 2 (answer (zeroSheet 100_000))) is (999_999_992 ∷ 1_000_000_008 ∷ 999_999_984 ∷ 1_000_000_017 ∷ []))
-    ∷ (answerOf (answer (zeroSheet 2_209)) is (0 ∷ 0 ∷ []))
-    ∷ (answerOf (answer (zeroSheet 2_208)) is (10 ∷ 150 ∷ []))
+    -- the zero sheet: every year, and the smallest limit
+    ∷ (ends (yearsOf plain 1 150 (answer (zeroSheet 1))) is replicate 300 U)
+    ∷ (answerOf (answer (zeroSheet 1)) is (0 ∷ 0 ∷ []))
     ∷ []
 
 -- marked +
 unfoldable pub others : List Figure
 others =
-    -- the zero sheet's year 150
-    (ends (yearsOf plain 150 1 (answer (zeroSheet 100_000))) is (999_998_960 ∷ 1_000_001_169 ∷ []))
+    -- rates of 3% with UFR 0: year 150
+    (ends (yearsOf plain 150 1 (answer (sheetWith (replicate 17 3_000) 100_000))) is (411_986_547 ∷ 411_987_183 ∷ []))
     -- all rates at -2,000; 1 to 9 at -2,000 and 10 at 12,000; all at 3,000 but 12 at 12,000
     ∷ (answerOf (answer (sheetWith (replicate 17 minus2000) 100_000)) is (8 ∷ 35 ∷ []))
     ∷ (answerOf (answer (sheetWith (replicate 9 minus2000 ++ 12_000 ∷ replicate 7 0) 100_000)) is (7 ∷ 10 ∷ []))
@@ -227,14 +227,14 @@ adjustmentFigures =
     -- November with X 20,000 and an adjustment of -75
     ∷ (ends (yearsOf adjusted 20 1 (answer (adjustedBy (phased november 20_000) (minus 75)))) is (1_012_269_593 ∷ 1_012_269_756 ∷ []))
     ∷ (ends (yearsOf adjusted 150 1 (answer (adjustedBy (phased november 20_000) (minus 75)))) is (650_550_363 ∷ 650_552_197 ∷ []))
-    -- an adjustment of 0 is a curve of its own; a sheet without one has none
-    ∷ (ends (yearsOf adjusted 20 1 (answer (adjustedBy (zeroSheet 100_000) 0))) is (999_999_980 ∷ 1_000_000_000 ∷ []))
+    -- an adjustment of 0 is a curve, the plain one; a sheet without one has none
+    ∷ (ends (yearsOf adjusted 1 150 (answer (adjustedBy (zeroSheet 1) 0))) is replicate 300 U)
     ∷ (ends (yearsOf adjusted 20 1 (answer (zeroSheet 100_000))) is [])
     -- 8 and 10 on the adjusted curve alone, after the plain one's 10
     ∷ (answerOf (answer deepRates) is (0 ∷ 0 ∷ []))
     ∷ (answerOf (answer (adjustedBy deepRates (minus 500))) is (8 ∷ 41 ∷ []))
-    ∷ (answerOf (answer (adjustedBy (zeroSheet 2_208) 0)) is (10 ∷ 150 ∷ []))
-    ∷ (answerOf (answer (adjustedBy (zeroSheet 2_209) 0)) is (10 ∷ 149 ∷ []))
+    ∷ (answerOf (answer (adjustedBy (threePercent 159) 100)) is (10 ∷ 51 ∷ []))
+    ∷ (answerOf (answer (adjustedBy (threePercent 160) 100)) is (10 ∷ 29 ∷ []))
     -- another kind; beyond the range on either side; before the phase-in's record; 113 and 116 bytes
     ∷ (answerOf (answer (zeroSheet 100_000 ++ 0x05 ∷ 0 ∷ 0 ∷ [])) is (2 ∷ 26 ∷ []))
     ∷ (answerOf (answer (adjustedBy (zeroSheet 100_000) 501)) is (3 ∷ 26 ∷ []))
@@ -242,4 +242,25 @@ adjustmentFigures =
     ∷ (answerOf (answer (phased (adjustedBy (zeroSheet 100_000) 0) 10_000)) is (2 ∷ 26 ∷ []))
     ∷ (answerOf (answer (adjustedBy (zeroSheet 100_000) 0 ++ 0 ∷ [])) is (1 ∷ 0 ∷ []))
     ∷ (answerOf (answer (adjustedBy (phased (zeroSheet 100_000) 10_000) 0 ++ 0 ∷ [])) is (1 ∷ 0 ∷ []))
+    ∷ []
+
+-- those that changed where a known result gains nothing, as document 01 and the adjustment had them
+unfoldable pub earlierFigures : List Figure
+earlierFigures =
+    -- G(U), E(0), the high of E(1)
+    (signedEnds (GWith 1 U) is (0 ∷ 1 ∷ []))
+    ∷ (ends (pair (growthLow 0) (growthHighWith 1 0) ∷ []) is (U ∷ 1_000_000_001 ∷ []))
+    ∷ (pos (growthHighWith 1 1) ∷ [] is (1_000_000_008 ∷ []))
+    -- the zero sheet: years 1 to 20; 21 and 22; 150; its limit
+    ∷ (ends (yearsOf plain 1 20 (earlierAnswer (zeroSheet 100_000))) is replicate 40 U)
+    ∷ (ends (yearsOf plain 21 2 (earlierAnswer (zeroSheet 100_000))) is (999_999_992 ∷ 1_000_000_008 ∷ 999_999_984 ∷ 1_000_000_017 ∷ []))
+    ∷ (ends (yearsOf plain 150 1 (earlierAnswer (zeroSheet 100_000))) is (999_998_960 ∷ 1_000_001_169 ∷ []))
+    ∷ (answerOf (earlierAnswer (zeroSheet 2_209)) is (0 ∷ 0 ∷ []))
+    ∷ (answerOf (earlierAnswer (zeroSheet 2_208)) is (10 ∷ 150 ∷ []))
+    -- rates of 3% with UFR 0: year 150
+    ∷ (ends (yearsOf plain 150 1 (earlierAnswer (sheetWith (replicate 17 3_000) 100_000))) is (411_986_547 ∷ 411_987_233 ∷ []))
+    -- the zero sheet with an adjustment of 0: year 20, its limit
+    ∷ (ends (yearsOf adjusted 20 1 (earlierAnswer (adjustedBy (zeroSheet 100_000) 0))) is (999_999_980 ∷ 1_000_000_000 ∷ []))
+    ∷ (answerOf (earlierAnswer (adjustedBy (zeroSheet 2_208) 0)) is (10 ∷ 150 ∷ []))
+    ∷ (answerOf (earlierAnswer (adjustedBy (zeroSheet 2_209) 0)) is (10 ∷ 149 ∷ []))
     ∷ []

@@ -10,7 +10,7 @@ use lib.ListN.{length, drop}
 use Rattle.method.specs.Grounds.{afterToldMonth, beforeStandingCurve, Outcome, refused, done, _>>=_, demand}
 use Rattle.method.specs.Sheet.{Numbers, sheetNumbers, readSheet}
 use Rattle.method.specs.Units.{Which, plain, adjusted}
-use Rattle.method.specs.Curve.{Curve, Held, none, some, Curves, curveNamed, adjustedCurve, adjustedIf, curvesOf, answer}
+use Rattle.method.specs.Curve.{Curve, Held, none, some, Curves, curveNamed, adjustedCurve, adjustedIf, curvesOf, answerWith, answer}
 use Rattle.method.proofs.Enclosure.{Worked, worked, enclosure}
 use Rattle.method.proofs.Reading.{read-passes}
 use Rattle.method.proofs.Outcome.{split, bind-done, demand-done, done-injective}
@@ -35,7 +35,7 @@ read-month s e = ap (λ (k : Numbers). k .month) (read-typed s e)
 
 -- a post that goes through works the sheet that its bytes alone give
 pub outcome-answer : (b : Book) (s : List ℕ) {k : Curves} → postOutcome b s ≡ done k → answer s ≡ done k
-unfolding postOutcome answer
+unfolding postOutcome answerWith
 outcome-answer b s e =
     let read = bind-done (readSheet s) _ e in
     let n = read .0 in
@@ -133,7 +133,7 @@ works-done s e = go (answer s) refl e
 
 -- a sheet that works is typed as its records are
 pub answer-typed : (s : List ℕ) {cs : Curves} → answer s ≡ done cs → sheetNumbers s ≡ typed s
-unfolding answer
+unfolding answerWith
 answer-typed s e =
     let read = bind-done (readSheet s) curvesOf e in
     let p = read-passes s (read .0) (read .1) in
@@ -168,7 +168,7 @@ adjusted-not-there false n t e = sym (done-injective e)
 
 -- what the sheet was worked from
 worked-from : (s : List ℕ) {cs : Curves} → answer s ≡ done cs → (n : Numbers) × (n .adjusts ≡ hasAdjustment s) × Worked n cs
-unfolding answer typed
+unfolding answerWith typed
 worked-from s {cs} e =
     let read = bind-done (readSheet s) curvesOf e in
     (read .0, ap (λ (k : Numbers). k .adjusts) (read-typed s (read .1)), worked (read .0) cs (read .2))
@@ -204,7 +204,7 @@ in-order told (s ∷ ss) g m = let a = works-done s (g .0 .0) in rw (a .1, answe
 
 -- the count accepts exactly what the book accepts
 pub accepts-post : (limit : ℕ) (c : Count) → SoundCount c → (s : List ℕ) → acceptsSheet c s ≡ isDone (postOutcome (bookOf limit c) s)
-unfolding acceptsSheet postOutcome answer
+unfolding acceptsSheet postOutcome answerWith
 accepts-post limit c g s = go (readSheet s) refl
   where
     go : (o : Outcome Numbers) → readSheet s ≡ o → acceptsSheet c s ≡ isDone (postOutcome (bookOf limit c) s)

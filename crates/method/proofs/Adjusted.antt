@@ -23,7 +23,7 @@ use Rattle.fraction.proofs.Rounding.{U-positive}
 use Rattle.method.specs.Units.{Pair, pair, SignedPair, signedPair}
 use Rattle.method.specs.Grounds.{highAboveLimit, Outcome, done, _>>=_}
 use Rattle.method.specs.Quotes.{highestFactor}
-use Rattle.method.specs.Extrapolation.{step, billionths, steps, adjustedYears, firstRaised}
+use Rattle.method.specs.Extrapolation.{step, billionths, stepsWith, steps, adjustedYearsWith, adjustedYears, firstRaised}
 use Rattle.method.specs.True.{billion, exp, loweredFrom, withVA}
 use Rattle.method.proofs.Outcome.{bind-done, demand-done, done-injective}
 use Rattle.method.proofs.Enclosed.{AllEnclosed, none, more}
@@ -64,7 +64,7 @@ VA-over a = ≈-sym (÷-unique (natℚ-positive U-positive) (≈-sym (≈-trans 
 
 steps-enclose : (n : ℕ) (a : ℤ) → natAbs a ≤ 500 → (t : ℕ) (p : Pair) {y : ℚ} → Encloses (pos (p .low)) (pos (p .high)) y →
     Encloses (pos (steps (bothEnds a) t p .low)) (pos (steps (bothEnds a) t p .high)) (y *ℚ powℚ (exp n (negℚ (VA a))) t)
-unfolding steps powℚ
+unfolding stepsWith powℚ
 steps-enclose n a h zero p {y} e = encloses-≈ (≈-sym (*ℚ-one y)) e
 steps-enclose n a h (suc t) p {y} e =
     let d = exp n (negℚ (VA a)) in
@@ -82,7 +82,7 @@ record Lowered (a : ℤ) (year : ℕ) (p : Pair) (ps qs : List Pair) : Type 0 wh
   rest : adjustedYears a (year + 1) ps ≡ done later
 
 lowered : (a : ℤ) (year : ℕ) (p : Pair) (ps : List Pair) {qs : List Pair} → adjustedYears a year (p ∷ ps) ≡ done qs → Lowered a year p ps qs
-unfolding adjustedYears
+unfolding adjustedYearsWith
 lowered a year p ps e =
     let next = steps (bothEnds a) year p in
     let later = adjustedYears a (year + 1) ps in
@@ -92,7 +92,7 @@ lowered a year p ps e =
     record { later = worked .0; is = done-injective (worked .2); high = leb-true _ _ (tested .0); rest = worked .1 }
 
 nothing-lowered : (a : ℤ) (year : ℕ) {qs : List Pair} → adjustedYears a year [] ≡ done qs → [] ≡ qs
-unfolding adjustedYears
+unfolding adjustedYearsWith
 nothing-lowered a year e = done-injective e
 
 pub adjusted-length : (a : ℤ) (year : ℕ) (ps : List Pair) {qs : List Pair} → adjustedYears a year ps ≡ done qs → length qs ≡ length ps

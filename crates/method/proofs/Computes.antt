@@ -4,19 +4,19 @@ use Rattle.method.specs.Sheet.{maturities, volumeMaturities, firstEntrie
 use Rattle.method.specs.Sheet.{firstFailure, total, readSheet}
 use Rattle.method.specs.Quotes.{annuity, trial, lastOf, surelyNotAbove, surelyNotBelow, halve, lowX, highX, quotedYear}
 use Rattle.method.specs.Quotes.{insideYears, lastYear, used, kept, gapYears, parYear, yearsTo, bootstrapFrom, quotesOf, bootstrap}
-use Rattle.method.specs.Series.{logarithmSum, logarithm, G, gapForward, ultimateForward, growthSum, growth}
+use Rattle.method.specs.Series.{added, logarithmSum, logarithm, GWith, gapForwardWith, ultimateForwardWith, growthSum, growth}
 use Rattle.method.specs.Table.{table}
 use Rattle.method.specs.Extrapolation.{llfrNumerator, llfr, convergenceFactor, κPairs, decayPair, scalePair, weightsFrom, weights}
-use Rattle.method.specs.Extrapolation.{forward, step, extrapolate, steps, adjustedYears, firstRaised, firstTooWide}
-use Rattle.method.specs.Curve.{spread, factorOf, withinLimit, extended, curveOf, adjustedCurve, curvesOf, answer}
+use Rattle.method.specs.Extrapolation.{forward, stepWith, extrapolateWith, stepsWith, adjustedYearsWith, firstRaised, firstTooWide}
+use Rattle.method.specs.Curve.{spread, factorOf, withinLimit, extendedWith, curveOfWith, adjustedCurveWith, curvesOfWith, answerWith}
 use Rattle.method.specs.Bytes.{bigEndian}
 
 unfoldable pub computes : ℕ
 unfolding maturities volumeMaturities firstEntries bytesOf layoutOf entriesOf sizeOf slotsFrom slotsOf bigEndian firstFailure total readSheet
     annuity trial lastOf surelyNotAbove surelyNotBelow halve lowX highX quotedYear insideYears lastYear
     used kept gapYears parYear yearsTo bootstrapFrom quotesOf bootstrap
-    logarithmSum logarithm G gapForward ultimateForward growthSum growth
+    added logarithmSum logarithm GWith gapForwardWith ultimateForwardWith growthSum growth
     table llfrNumerator llfr convergenceFactor κPairs decayPair scalePair weightsFrom weights
-    forward step extrapolate steps adjustedYears firstRaised firstTooWide
-    spread factorOf withinLimit extended curveOf adjustedCurve curvesOf answer
+    forward stepWith extrapolateWith stepsWith adjustedYearsWith firstRaised firstTooWide
+    spread factorOf withinLimit extendedWith curveOfWith adjustedCurveWith curvesOfWith answerWith
 computes = 0

@@ -18,7 +18,7 @@ use Rattle.method.specs.Quotes.{used, kept, Bootstrap, bootstrap}
 use Rattle.method.specs.Series.{gapForward}
 use Rattle.method.specs.Extrapolation.{at, llfrNumerator, llfr}
 use Rattle.method.specs.Curve.{smoothingIndex, usedBy, usedQuotes, spread, gapForwards, factorOf}
-use Rattle.method.specs.Curve.{extended, curveOf, adjustedCurve, adjustedIf, curvesOf, answer}
+use Rattle.method.specs.Curve.{extendedWith, curveOfWith, curveOf, adjustedCurveWith, adjustedCurve, adjustedIf, curvesOfWith, curvesOf, answerWith, answer}
 use Rattle.method.proofs.Entries.{map-at}
 use Rattle.method.proofs.Used.{kept-quotes, kept-front, used-to, used-past, spread-length, as-many-marks, gaps-length}
 
@@ -50,16 +50,16 @@ module _ (n : Numbers) (rs : List ℤ) (same : kept (usedBy n) rs ≡ kept (used
   at-20 = sym (smoothing-rate (n .volumes) rs) ∙ ap (λ (zs : List ℤ). getD zs smoothingIndex (pos 0)) same ∙ smoothing-rate (n .volumes) (n .rates)
 
   same-plain : curveOf (withRates n rs) ≡ curveOf n
-  unfolding curveOf extended factorOf
+  unfolding curveOfWith extendedWith factorOf
   same-plain = rw (kept-quotes (usedBy n) maturities rs, kept-quotes (usedBy n) maturities (n .rates), same, at-20) refl
 
   same-adjusted : adjustedCurve (withRates n rs) ≡ adjustedCurve n
-  unfolding adjustedCurve extended factorOf
+  unfolding adjustedCurveWith extendedWith factorOf
   same-adjusted = rw (kept-quotes (usedBy n) maturities rs, kept-quotes (usedBy n) maturities (n .rates), same, at-20) refl
 
   -- rates that agree on the used quotes give the same curves, or the same refusal: a dropped quote has no say
   pub no-say : curvesOf (withRates n rs) ≡ curvesOf n
-  unfolding curvesOf
+  unfolding curvesOfWith
   no-say = rw (same-plain, same-if (n .adjusts))
     where
       same-if : (t : Bool) → adjustedIf t (withRates n rs) ≡ adjustedIf t n
@@ -68,7 +68,7 @@ module _ (n : Numbers) (rs : List ℤ) (same : kept (usedBy n) rs ≡ kept (used
 
 -- but it is read: whatever the volumes, a sheet that fails one of 1 to 4 is turned down on it
 pub still-tested : (s : List ℕ) {g : Ground} → readSheet s ≡ refused g → answer s ≡ refused g
-unfolding answer
+unfolding answerWith
 still-tested s e = rw e refl
 
 -- ---- past the last used quote there is no weight: LLFR is the same whatever stands there

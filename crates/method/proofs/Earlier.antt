@@ -17,8 +17,8 @@ use Rattle.method.specs.Quotes.{used, kept, Quote, Bootstrap, bootstrap,
 use Rattle.method.specs.Series.{gapForward, ultimateForward}
 use Rattle.method.specs.Table.{table}
 use Rattle.method.specs.Extrapolation.{llfr, κPairs, extrapolate}
-use Rattle.method.specs.Curve.{smoothingYear, smoothingIndex, usedBy, usedQuotes, spread, gapForwards, factorOf, withinLimit, extended}
-use Rattle.method.specs.Curve.{Curve, Curves, none, curveWith, curveOf, curvesOf, answer}
+use Rattle.method.specs.Curve.{smoothingYear, smoothingIndex, usedBy, usedQuotes, spread, gapForwards, factorOf, withinLimit, extendedWith, extended}
+use Rattle.method.specs.Curve.{Curve, Curves, none, curveWith, curveOfWith, curveOf, curvesOfWith, curvesOf, answerWith, answer}
 use Rattle.method.specs.Earlier.{tabledCurve, everyQuoteCurve}
 use Rattle.method.proofs.Outcome.{bind-assoc, bind-with}
 use Rattle.method.proofs.Layouts.{layout-is, adjusts-by-record}
@@ -31,7 +31,7 @@ use Rattle.method.proofs.Weights.{weights-tabled}
 use Rattle.method.proofs.Speed.{factor-plain, factor-high}
 
 pub at-ten-percent : (n : Numbers) → length (n .rates) ≡ 17 → factorOf n ≡ 10_000_000 → curveOf n ≡ tabledCurve n
-unfolding curveOf tabledCurve extended
+unfolding curveOfWith tabledCurve extendedWith
 at-ten-percent n seventeen ten =
     bind-with (bootstrap (usedQuotes n))
     λ b d.
@@ -50,7 +50,7 @@ alone c = record { plain = c; adjusted = none }
 
 -- without an adjustment the curves are the plain one, digit for digit, with its grounds
 pub without-adjustment : (n : Numbers) → n .adjusts ≡ false → curvesOf n ≡ (curveOf n >>= λ c. done (alone c))
-unfolding curvesOf
+unfolding curvesOfWith
 without-adjustment n e = rw e
 
 -- another adjustment, or none
@@ -69,12 +69,12 @@ withAdjustment n adjusts a =
 
 -- it has no say in the plain curve and its grounds
 pub plain-untouched : (n : Numbers) (adjusts : Bool) (a : ℤ) → curveOf (withAdjustment n adjusts a) ≡ curveOf n
-unfolding curveOf extended factorOf
+unfolding curveOfWith extendedWith factorOf
 plain-untouched n adjusts a = refl
 
 -- which come first
 pub plain-first : (n : Numbers) {g : Ground} → curveOf n ≡ refused g → curvesOf n ≡ refused g
-unfolding curvesOf
+unfolding curvesOfWith
 plain-first n e = rw e
 
 -- ---- no volume past 20 years is 0; the one at 20 may be
@@ -110,7 +110,7 @@ module _ (n : Numbers) (seventeen : length (n .rates) ≡ 17) (five : length (n 
         rw all-used (subst (λ (k : ℕ). spread (pair U U) (replicate k true) xs ≡ xs) five-gaps (spread-all (pair U U) xs))
 
   pub same-without-zeros : curveOf n ≡ everyQuoteCurve n
-  unfolding curveOf everyQuoteCurve
+  unfolding curveOfWith everyQuoteCurve
   same-without-zeros =
       let rest : Bootstrap → List Pair → Outcome Curve =
       λ b xs. extended n (llfr (n .volumes) (map gapForward xs)) (take smoothingYear (b .factors)) >>= λ years. done (curveWith n years) in
@@ -134,7 +134,7 @@ module _ (s : List ℕ) (h : length s ≤ 109) where
 
   -- so it has the answer that the table gives, and no other curve
   pub earlier-answer : answer s ≡ (readSheet s >>= λ n. tabledCurve n >>= λ c. done (alone c))
-  unfolding answer
+  unfolding answerWith
   earlier-answer =
       bind-with (readSheet s)
       λ n e.

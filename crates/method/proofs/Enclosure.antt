@@ -19,7 +19,7 @@ use Rattle.method.specs.Quotes.{Bootstrap, bootstrap}
 use Rattle.method.specs.Series.{gapForward, ultimateForward}
 use Rattle.method.specs.Extrapolation.{llfr, adjustedYears, firstRaised}
 use Rattle.method.specs.Curve.{Curve, Curves, some, curveNamed, smoothingYear, smoothingIndex, usedBy, usedQuotes, spread, gapForwards}
-use Rattle.method.specs.Curve.{extended, curveWith, curveOf, adjustedCurve, adjustedIf, curvesOf, answer}
+use Rattle.method.specs.Curve.{extended, curveWith, curveOfWith, curveOf, adjustedCurveWith, adjustedCurve, adjustedIf, curvesOfWith, curvesOf, answerWith, answer}
 use Rattle.method.specs.True.{billion, minusLog, Liquid, liquid, yearlyTo, lastLiquidForward, toLastYear}
 use Rattle.method.specs.True.{trueMaturities, trueLiquid, trueForwards, truePlain, withVA, trueAdjusted, trueCurve, trueFactor}
 use Rattle.method.specs.Enclosure.{CurveHolds, lowOf, highOf}
@@ -43,12 +43,12 @@ use Rattle.method.specs.Ranges.{logarithmBound, forwardBound, Each, Fact
 
 -- ---- lists
 
-factors-at-most : {ps : List Pair} → Each Factor ps → HighsAtMost ps
+pub factors-at-most : {ps : List Pair} → Each Factor ps → HighsAtMost ps
 factors-at-most Each.none i = zero-le
 factors-at-most (Each.more f e) zero = f .greatest
 factors-at-most (Each.more f e) (suc i) = factors-at-most e i
 
-take-at-most : (k : ℕ) (ps : List Pair) → HighsAtMost ps → HighsAtMost (take k ps)
+pub take-at-most : (k : ℕ) (ps : List Pair) → HighsAtMost ps → HighsAtMost (take k ps)
 take-at-most zero ps h i = zero-le
 take-at-most (suc k) [] h i = zero-le
 take-at-most (suc k) (p ∷ ps) h zero = h zero
@@ -258,14 +258,14 @@ module _ (s : Numbers) (u : Usable s) {b : Bootstrap} (d : bootstrap (usedQuotes
       (λ n. extended-encloses adjusted n steps count (adjusted-encloses n (s .adjustment) (u .adjustment-size) 1 (years-enclosed s u d n) a))
 
 pub plain-enclosure : (s : Numbers) → Usable s → (c : Curve) → curveOf s ≡ done c → CurveHolds plain s c
-unfolding curveOf
+unfolding curveOfWith
 plain-enclosure s u c e =
     let boot = bind-done (bootstrap (usedQuotes s)) _ e in
     let ext = bind-done (extended s (llfrFor s u (boot .1) plain) (take smoothingYear (boot .0 .factors))) _ (boot .2) in
     subst (CurveHolds plain s) (done-injective (ext .2)) (plain-holds s u (boot .1) (ext .1))
 
 pub adjusted-enclosure : (s : Numbers) → Usable s → (c : Curve) → adjustedCurve s ≡ done c → CurveHolds adjusted s c
-unfolding adjustedCurve
+unfolding adjustedCurveWith
 adjusted-enclosure s u c e =
     let boot = bind-done (bootstrap (usedQuotes s)) _ e in
     let first = bind-done (adjustedYears (s .adjustment) 1 (take smoothingYear (boot .0 .factors))) _ (boot .2) in
@@ -280,7 +280,7 @@ pub record Worked (s : Numbers) (cs : Curves) : Type 0 where
   pub adjusted-done : adjustedIf (s .adjusts) s ≡ done (cs .adjusted)
 
 pub worked : (s : Numbers) (cs : Curves) → curvesOf s ≡ done cs → Worked s cs
-unfolding curvesOf
+unfolding curvesOfWith
 worked s cs e =
     let first = bind-done (curveOf s) _ e in
     let second = bind-done (adjustedIf (s .adjusts) s) _ (first .2) in
@@ -326,7 +326,7 @@ usable s h =
 -- For every bytes that are accepted: each curve is the sheet's, within its limit, and holds its true factor of every order.
 pub enclosure : (w : Which) (bytes : List ℕ) (cs : Curves) → answer bytes ≡ done cs → (c : Curve) → curveNamed w cs ≡ some c →
     CurveHolds w (sheetNumbers bytes) c
-unfolding answer
+unfolding answerWith
 enclosure w bytes cs e c named =
     let read = bind-done (readSheet bytes) curvesOf e in
     let numbers = read-passes bytes (read .0) (read .1) .numbers in

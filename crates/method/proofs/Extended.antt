@@ -21,7 +21,7 @@ use Rattle.method.specs.Sheet.{Numbers, total}
 use Rattle.method.specs.Quotes.{lastYear, highestFactor}
 use Rattle.method.specs.Series.{ultimateForward}
 use Rattle.method.specs.Extrapolation.{weights, extrapolate, firstTooWide}
-use Rattle.method.specs.Curve.{factorOf, withinLimit, extended}
+use Rattle.method.specs.Curve.{factorOf, withinLimit, extendedWith, extended}
 use Rattle.method.specs.True.{speed, convergence, toLastYear}
 use Rattle.method.proofs.Outcome.{bind-done, demand-done, done-injective}
 use Rattle.method.proofs.Enclosed.{AllEnclosed, enclosed-append, enclosed-length}
@@ -101,7 +101,7 @@ pub record Extends (s : Numbers) (f : SignedPair) (quoted years : List Pair) : T
   pub is : quoted ++ later ≡ years
 
 pub extends : (s : Numbers) (f : SignedPair) (quoted : List Pair) {years : List Pair} → extended s f quoted ≡ done years → Extends s f quoted years
-unfolding extended withinLimit
+unfolding extendedWith withinLimit
 extends s f quoted e =
     let ext = bind-done (extrapolate _ _ (weights (factorOf s) (150 - length quoted)) (length quoted + 1) (lastYear quoted)) _ e in
     let wide = firstTooWide (s .limit) 1 (quoted ++ ext .0) in

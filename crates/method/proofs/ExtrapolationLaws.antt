@@ -20,7 +20,7 @@ use Rattle.method.specs.Units.{Pair, SignedPair, signedPair}
 use Rattle.method.specs.Grounds.{highAboveLimit, Outcome, refused, done, _>>=_}
 use Rattle.method.specs.Quotes.{highestFactor}
 use Rattle.method.specs.Series.{growthSum, growth, growthLow, growthHigh}
-use Rattle.method.specs.Extrapolation.{forward, stepLow, stepHigh, step, extrapolate, billionths, steps, adjustedYears}
+use Rattle.method.specs.Extrapolation.{forward, stepLow, stepHigh, stepWith, step, extrapolateWith, extrapolate, billionths, stepsWith, steps, adjustedYearsWith, adjustedYears}
 use Rattle.method.specs.True.{billion}
 use Rattle.method.proofs.Forward.{Weighs, forward-encloses}
 
@@ -46,15 +46,15 @@ after-one p (done qs) = refl
 module _ (l f : SignedPair) (κ : Pair) (κs : List Pair) (year : ℕ) (p : Pair) where
   pub year-worked : step (forward l f κ) p .high ≤ highestFactor →
       extrapolate l f (κ ∷ κs) year p ≡ after (step (forward l f κ) p ∷ []) (extrapolate l f κs (year + 1) (step (forward l f κ) p))
-  unfolding extrapolate
+  unfolding extrapolateWith
   year-worked h = rw (le-leb _ _ h) (after-one (step (forward l f κ) p) (extrapolate l f κs (year + 1) (step (forward l f κ) p)))
 
   pub year-refused : highestFactor < step (forward l f κ) p .high → extrapolate l f (κ ∷ κs) year p ≡ refused (highAboveLimit year)
-  unfolding extrapolate
+  unfolding extrapolateWith
   year-refused h = rw (lt-leb _ _ h)
 
 pub no-year : (l f : SignedPair) (year : ℕ) (p : Pair) → extrapolate l f [] year p ≡ done []
-unfolding extrapolate
+unfolding extrapolateWith
 no-year l f year p = refl
 
 -- ---- so is an adjusted year
@@ -64,15 +64,15 @@ module _ (a : ℤ) (p : Pair) (ps : List Pair) (year : ℕ) where
   taken = steps (signedPair (billionths a) (billionths a)) year p
 
   pub adjusted-worked : taken .high ≤ highestFactor → adjustedYears a year (p ∷ ps) ≡ after (taken ∷ []) (adjustedYears a (year + 1) ps)
-  unfolding adjustedYears
+  unfolding adjustedYearsWith
   adjusted-worked h = rw (le-leb _ _ h) (after-one taken (adjustedYears a (year + 1) ps))
 
   pub adjusted-refused : highestFactor < taken .high → adjustedYears a year (p ∷ ps) ≡ refused (highAboveLimit year)
-  unfolding adjustedYears
+  unfolding adjustedYearsWith
   adjusted-refused h = rw (lt-leb _ _ h)
 
 pub none-adjusted : (a : ℤ) (year : ℕ) → adjustedYears a year [] ≡ done []
-unfolding adjustedYears
+unfolding adjustedYearsWith
 none-adjusted a year = refl
 
 -- ---- what keeps the low at most the high
@@ -80,7 +80,7 @@ none-adjusted a year = refl
 between : {a b : ℕ} → a ≤ b → Encloses (pos a) (pos b) (natℚ a)
 between {a} h = nat-encloses (≤ℚ-refl (natℚ a)) (natℚ-mono h)
 
-betweenℤ : {a b : ℤ} → a ≤ℤ b → Encloses a b (intℚ a)
+pub betweenℤ : {a b : ℤ} → a ≤ℤ b → Encloses a b (intℚ a)
 betweenℤ {a} h = record { below = ≤ℚ-refl (intℚ a); above = intℚ-mono h }
 
 ordered : {a b : ℕ} {x : ℚ} → Encloses (pos a) (pos b) x → a ≤ b
@@ -99,7 +99,7 @@ growth-ordered y z h = omega (arith, growthSum-ordered y z 1 U U 7 (omega arith)
 
 -- a year's step, at an ordered forward
 pub step-ordered : (f : SignedPair) (p : Pair) → f .low ≤ℤ f .high → p .low ≤ p .high → step f p .low ≤ step f p .high
-unfolding step growth
+unfolding stepWith growth
 step-ordered f p hf hp = go (f .low) (f .high) hf
   where
     go : (a b : ℤ) → a ≤ℤ b → stepLow b (p .low) ≤ stepHigh a (p .high)
@@ -114,7 +114,7 @@ step-ordered f p hf hp = go (f .low) (f .high) hf
 
 -- t of them
 pub steps-ordered : (f : SignedPair) (t : ℕ) (p : Pair) → f .low ≤ℤ f .high → p .low ≤ p .high → steps f t p .low ≤ steps f t p .high
-unfolding steps
+unfolding stepsWith
 steps-ordered f zero p hf hp = hp
 steps-ordered f (suc t) p hf hp = steps-ordered f t (step f p) hf (step-ordered f p hf hp)
 

@@ -252,10 +252,10 @@ cond-above : (c : Bool) {a b : ℤ} → (T c → a ≤ℤ b) → (T (not c) → 
 cond-above true {b = b} h k = (h tt, ≤ℤ-refl b)
 cond-above false {a} h k = (≤ℤ-refl a, k tt)
 
-smaller-below : (a b : ℤ) → (smaller a b ≤ℤ a) × (smaller a b ≤ℤ b)
+pub smaller-below : (a b : ℤ) → (smaller a b ≤ℤ a) × (smaller a b ≤ℤ b)
 smaller-below a b = cond-below (leZ a b) (λ t. record { le = t }) (leZ-no a b)
 
-larger-above : (a b : ℤ) → (a ≤ℤ larger a b) × (b ≤ℤ larger a b)
+pub larger-above : (a b : ℤ) → (a ≤ℤ larger a b) × (b ≤ℤ larger a b)
 larger-above a b = cond-above (leZ a b) (λ t. record { le = t }) (leZ-no a b)
 
 -- the blend at κ is on the line x + (y - x) × κ / U
@@ -292,7 +292,7 @@ line-encloses p q {a} {b} {c} {e} l u h k =
       above = blend-high p q l u (≤ℚ-trans (h .above) (intℚ-mono (highs .0))) (≤ℚ-trans (k .above) (intℚ-mono (highs .1)));
     }
 
-encloses-weight : (w : ℕ) {a b : ℤ} {x : ℚ} → Encloses a b x → Encloses (a *ℤ pos w) (b *ℤ pos w) (natℚ w *ℚ x)
+pub encloses-weight : (w : ℕ) {a b : ℤ} {x : ℚ} → Encloses a b x → Encloses (a *ℤ pos w) (b *ℤ pos w) (natℚ w *ℚ x)
 encloses-weight w {a} {b} {x} h =
     subst₂ (λ (l u : ℤ). Encloses l u (natℚ w *ℚ x)) (*ℤ-comm (pos w) a) (*ℤ-comm (pos w) b) (encloses-times w h)
 

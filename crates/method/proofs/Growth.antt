@@ -4,7 +4,7 @@ use mathlib.Core.List.{[], _∷_}
 use Prim.Native.Nat.{ℕ, zero, suc, _+_, _*_, _/_, _≤_, _<_}
 use native.Mathlib.Nat.{add-zero, mul-pos, zero-lt-suc, le-refl, mul-le-mul, add-le-add}
 use native.Mathlib.Omega.{arith}
-use lib.Dec.{lit<, lit≤}
+use lib.Dec.{lit<}
 use lib.IntN.{pos}
 use Rattle.fraction.specs.Fraction.{ℚ, _≈_, _≤ℚ_, NonNegative, Positive, natℚ, _+ℚ_, _*ℚ_, _÷_, recip, powℚ, sumℚ}
 use Rattle.fraction.specs.Rounding.{U, ceilDiv, Encloses}
@@ -18,10 +18,11 @@ use Rattle.fraction.proofs.Decide.{computes, leℚ→≤}
 use Rattle.fraction.proofs.Enclosure.{encloses-≈, encloses-+, encloses-scaled}
 use Rattle.fraction.proofs.Ring.{var, con, _⊗_}
 use Rattle.fraction.proofs.RingFraction.{ringℚ}
-use Rattle.method.specs.Series.{growthSum, growth, growthLow, growthHigh}
+use Rattle.method.specs.Series.{added, growthSum, growth, growthLow, growthHigh}
 use Rattle.method.specs.True.{billion, factorial, expSum}
 use Rattle.method.proofs.Quotients.{nat-exact, ÷-product, Below, up-below-up, down-below-up}
 use Rattle.method.proofs.Tail.{tail-≤, tail-covered}
+use Rattle.method.proofs.Slack.{added-cases, added-most}
 use Rattle.method.specs.Ranges.{growthRange}
 
 -- ---- the terms y^i / i!
@@ -118,6 +119,11 @@ range-tail : billion *ℚ (natℚ 2 *ℚ expTerm (natℚ growthRange ÷ billion)
 unfolding computes factorial
 range-tail = leℚ→≤ tt
 
+-- at 0 there is none
+zero-tail : billion *ℚ (natℚ 2 *ℚ expTerm (natℚ 0 ÷ billion) 8) ≤ℚ natℚ 0
+unfolding computes factorial
+zero-tail = leℚ→≤ tt
+
 module _ (y : ℕ) where
   abbrev part : ℚ
   part = natℚ y ÷ billion
@@ -161,11 +167,15 @@ module _ (y : ℕ) where
         (*ℚ-mono-right (natℚ-nonNegative U) (*ℚ-mono-right (natℚ-nonNegative 2) (expTerm-mono part-nonNegative within 8)))
         range-tail
 
+    -- what is added covers the tail
+    covered : billion *ℚ (natℚ 2 *ℚ expTerm part 8) ≤ℚ natℚ (added 0 0 y)
+    covered = added-cases 0 0 y (λ m. billion *ℚ (natℚ 2 *ℚ expTerm part 8) ≤ℚ natℚ m) (λ e. rw e zero-tail) small
+
 pub growth-encloses : (n y : ℕ) → y ≤ growthRange → Encloses (pos (growthLow y)) (pos (growthHigh y)) (billion *ℚ expSum n (natℚ y ÷ billion))
 unfolding expSum
 growth-encloses n y h =
     let p = part-nonNegative y in
-    tail-covered (expTerm (part y)) (expTerm-nonNegative p) 8 (expTerm-halves p 8 (halves y h)) (natℚ-nonNegative U) (small y h)
+    tail-covered (expTerm (part y)) (expTerm-nonNegative p) 8 (expTerm-halves p 8 (halves y h)) (natℚ-nonNegative U) (added 0 0 y) (covered y h)
     (eight-encloses y)
     (13 + n)
     (omega arith)
@@ -180,7 +190,7 @@ growthSum-mono b h (suc k) i l =
     let next = b .below (i * U) (mul-le-mul l h) in
     add-le-add next (growthSum-mono b h k (suc i) next)
 
-growth-mono : {round round′ : ℕ → ℕ → ℕ} → Below round round′ → {y y′ : ℕ} → y ≤ y′ → growth round y ≤ growth round′ y′
+pub growth-mono : {round round′ : ℕ → ℕ → ℕ} → Below round round′ → {y y′ : ℕ} → y ≤ y′ → growth round y ≤ growth round′ y′
 unfolding growth
 growth-mono b h = add-le-add (le-refl U) (growthSum-mono b h 7 1 (le-refl U))
 
@@ -191,9 +201,9 @@ growthLow-≥ y = omega arith
 pub growthLow-≤-growthHigh : (y : ℕ) → growthLow y ≤ growthHigh y
 growthLow-≤-growthHigh y = omega (arith, growth-mono down-below-up (le-refl y))
 
-growthRange-≤ : growthHigh growthRange ≤ 1_300_000_000
+growthRange-≤ : growth ceilDiv growthRange < 1_300_000_000
 unfolding growth growthSum
-growthRange-≤ = lit≤ tt
+growthRange-≤ = lit< tt
 
 pub growthHigh-≤ : {y : ℕ} → y ≤ growthRange → growthHigh y ≤ 1_300_000_000
-growthHigh-≤ {y} h = omega (arith, growth-mono up-below-up h, growthRange-≤)
+growthHigh-≤ {y} h = omega (arith, growth-mono up-below-up h, growthRange-≤, added-most 0 y)

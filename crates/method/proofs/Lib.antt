@@ -10,6 +10,7 @@ pub mod Crossing
 pub mod Gap
 pub mod Liquid
 pub mod Tail
+pub mod Slack
 pub mod Quotients
 pub mod Growth
 pub mod Logarithm
@@ -44,3 +45,5 @@ pub mod Reading
 pub mod InBytes
 pub mod SheetBounds
 pub mod Places
+pub mod Inside
+pub mod Unadjusted

@@ -24,10 +24,11 @@ use Rattle.fraction.proofs.Ring.{var, con, ⊖, _⊕_, _⊗_}
 use Rattle.fraction.proofs.RingFraction.{ringℚ}
 use Rattle.method.specs.Units.{Pair, SignedPair, signedPair}
 use Rattle.method.specs.Quotes.{lowerEnd, upperEnd}
-use Rattle.method.specs.Series.{logarithmSum, logarithm, G, gapForward, ultimateForward}
+use Rattle.method.specs.Series.{added, logarithmSum, logarithm, GWith, G, gapForwardWith, gapForward, ultimateForwardWith, ultimateForward}
 use Rattle.method.specs.True.{billion, artanhSum, minusLog}
 use Rattle.method.proofs.Quotients.{nat-exact, ratio-≤}
 use Rattle.method.proofs.Tail.{tail-covered}
+use Rattle.method.proofs.Slack.{added-cases}
 
 -- ---- odd powers: odd, and monotone over all signs
 
@@ -193,6 +194,11 @@ ninth-tail : (billion *ℚ natℚ 2) *ℚ (natℚ 2 *ℚ artanhTerm (natℚ 1 ÷
 unfolding computes
 ninth-tail = leℚ→≤ tt
 
+-- and there is none at U
+zero-tail : (billion *ℚ natℚ 2) *ℚ (natℚ 2 *ℚ artanhTerm (natℚ 0 ÷ natℚ (U + U)) 5) ≤ℚ natℚ 0
+unfolding computes
+zero-tail = leℚ→≤ tt
+
 twice-nonNegative : NonNegative (billion *ℚ natℚ 2)
 twice-nonNegative = *ℚ-nonNegative (natℚ-nonNegative U) (natℚ-nonNegative 2)
 
@@ -256,14 +262,17 @@ module _ (d x : ℕ) where
         (*ℚ-mono-right twice-nonNegative (*ℚ-mono-right (natℚ-nonNegative 2) (artanhTerm-mono within 5)))
         ninth-tail
 
-    logarithm-encloses : (n : ℕ) → Encloses (pos (logarithm _/_ d x)) (pos (logarithm ceilDiv d x + 1)) (billion *ℚ artanhSum n ratio)
+    -- with what covers the tail added to the high
+    logarithm-encloses : (n m : ℕ) → (billion *ℚ natℚ 2) *ℚ (natℚ 2 *ℚ artanhTerm ratio 5) ≤ℚ natℚ m →
+        Encloses (pos (logarithm _/_ d x)) (pos (logarithm ceilDiv d x + m)) (billion *ℚ artanhSum n ratio)
     unfolding artanhSum
-    logarithm-encloses n =
+    logarithm-encloses n m covers =
         encloses-≈ (*ℚ-assoc billion (natℚ 2) (sumℚ (artanhTerm ratio) (5 + n)))
         (tail-covered (artanhTerm ratio) (artanhTerm-nonNegative ratio-nonNegative) 5
         (λ i l. artanhTerm-halves ratio-nonNegative halves i)
         twice-nonNegative
-        small
+        m
+        covers
         five-encloses
         (5 + n)
         (omega arith))
@@ -277,11 +286,11 @@ abbrev pub logarithmLow : ℕ → ℕ
 logarithmLow x = logarithm _/_ (distance x) x
 
 abbrev pub logarithmHigh : ℕ → ℕ
-logarithmHigh x = logarithm ceilDiv (distance x) x + 1
+logarithmHigh x = logarithm ceilDiv (distance x) x + added 0 U x
 
 pub G-cases : (x : ℕ) (P : SignedPair → Type 0) → (x ≤ U → P (signedPair (pos (logarithmLow x)) (pos (logarithmHigh x)))) →
     (U < x → P (signedPair (negℤ (pos (logarithmHigh x))) (negℤ (pos (logarithmLow x))))) → P (G x)
-unfolding G
+unfolding GWith
 G-cases x P below above = go (leb x U) (λ t. below (leb→le x U t)) (λ t. above (nleb→lt x U t))
   where
     go : (b : Bool) {p q : SignedPair} → (T b → P p) → (T (not b) → P q) → P (cond b p q)
@@ -317,9 +326,17 @@ module _ (n x : ℕ) where
       (≈-trans (≈-sym (artanhSum-neg n r))
       (artanhSum-cong n (≈-sym (≈-trans (ratio-of x (distance-above x h)) (negℚ-*ℚ (natℚ (distance x)) (recip (natℚ (U + x)))))))))
 
+  -- what is added covers the tail: at U there is none
+  covered : 9 * distance x ≤ U + x → (billion *ℚ natℚ 2) *ℚ (natℚ 2 *ℚ artanhTerm (ratio (distance x) x) 5) ≤ℚ natℚ (added 0 U x)
+  covered h =
+      added-cases 0 U x (λ m. (billion *ℚ natℚ 2) *ℚ (natℚ 2 *ℚ artanhTerm (ratio (distance x) x) 5) ≤ℚ natℚ m)
+      (λ e. rw e zero-tail)
+      (small (distance x) x h)
+
   pub G-encloses : lowerEnd ≤ x → x ≤ upperEnd → Encloses (G x .low) (G x .high) (minusLog n (natℚ x))
   G-encloses l h =
-      let encloses = logarithm-encloses (distance x) x (omega arith) n in
+      let ninth : 9 * distance x ≤ U + x = omega arith in
+      let encloses = logarithm-encloses (distance x) x ninth n (added 0 U x) (covered ninth) in
       G-cases x (λ g. Encloses (g .low) (g .high) (minusLog n (natℚ x)))
       (λ below. encloses-≈ (minusLog-below below) encloses)
       (λ above. encloses-≈ (minusLog-above above) (encloses-neg encloses))
@@ -328,7 +345,7 @@ module _ (n x : ℕ) where
 
 pub gapForward-encloses : (n : ℕ) (x : Pair) {t : ℚ} → lowerEnd ≤ x .low → x .high ≤ upperEnd → natℚ (x .low) ≤ℚ t → t ≤ℚ natℚ (x .high) →
     Encloses (gapForward x .low) (gapForward x .high) (minusLog n t)
-unfolding gapForward
+unfolding gapForwardWith
 gapForward-encloses n x l h below above =
     let ordered : x .low ≤ x .high = natℚ-reflects (x .low) (x .high) (≤ℚ-trans below above) in
     record {
@@ -349,7 +366,7 @@ ultimate-is u =
 
 pub ultimateForward-encloses : (n u : ℕ) → u ≤ 10_000 →
     Encloses (ultimateForward u .low) (ultimateForward u .high) (negℚ (minusLog n (billion *ℚ (natℚ 1 +ℚ natℚ u ÷ natℚ 100_000))))
-unfolding ultimateForward
+unfolding ultimateForwardWith
 ultimateForward-encloses n u h =
     encloses-neg
     (encloses-≈ (minusLog-cong n (natℚ-nonNegative (U + 10_000 * u)) (ultimate-is u))

@@ -17,8 +17,8 @@ use Rattle.method.specs.Grounds.{yearOutside, noCurve, bufferTooShort, a
 use Rattle.method.specs.Sheet.{layoutOf, sizeOf, Slot, slotsOf, firstFailure, rightRecord, inRange, total, Numbers, sheetNumbers, readSheet, maturities}
 use Rattle.method.specs.Quotes.{annuity, parLow, parHigh, trial, highestFactor, nextYear, quotedYear, insideYears, Bootstrap, gapYears}
 use Rattle.method.specs.Quotes.{Quote, parYear, yearsTo, bootstrapFrom, quotesOf, bootstrap}
-use Rattle.method.specs.Extrapolation.{weights, forward, step, extrapolate, steps, adjustedYears, firstTooWide}
-use Rattle.method.specs.Curve.{usedBy, usedQuotes, factorOf, withinLimit, extended, curveOf, adjustedCurve, adjustedIf, curvesOf, answer, smoothingYear}
+use Rattle.method.specs.Extrapolation.{weights, forward, step, extrapolateWith, extrapolate, steps, adjustedYearsWith, adjustedYears, firstTooWide}
+use Rattle.method.specs.Curve.{usedBy, usedQuotes, factorOf, withinLimit, extendedWith, extended, curveOfWith, curveOf, adjustedCurveWith, adjustedCurve, adjustedIf, curvesOfWith, curvesOf, answerWith, answer, smoothingYear}
 use Rattle.method.specs.Ranges.{climbs}
 use Rattle.method.proofs.QuotesLaws.{endsPass, inside, years-cases}
 use Rattle.method.proofs.QuotesBounds.{next-length, inside-length, climbs-more, climbs-within, years-length}
@@ -131,7 +131,7 @@ bootstrap-place n = rw (kept-quotes (usedBy n) maturities (n .rates)) (from-plac
 -- ---- ground 8 past the smoothing year, and ground 10
 
 extrapolate-place : {m : ℕ} (l f : SignedPair) (κs : List Pair) (year : ℕ) (p : Pair) → year + length κs ≤ m + 1 → place (extrapolate l f κs year p) ≤ m
-unfolding extrapolate
+unfolding extrapolateWith
 extrapolate-place l f [] year p h = omega arith
 extrapolate-place l f (κ ∷ κs) year p h =
     let next = step (forward l f κ) p in
@@ -139,7 +139,7 @@ extrapolate-place l f (κ ∷ κs) year p h =
     (bind-place (extrapolate l f κs (year + 1) next) _ (extrapolate-place l f κs (year + 1) next (omega arith)) λ later e. omega arith)
 
 extended-place : (n : Numbers) (f : SignedPair) (quoted : List Pair) → length quoted ≤ 150 → place (extended n f quoted) ≤ 150
-unfolding extended withinLimit
+unfolding extendedWith withinLimit
 extended-place n f quoted short =
     let κs = weights (factorOf n) (150 - length quoted) in
     let count = weights-most (factorOf n) (150 - length quoted) in
@@ -151,7 +151,7 @@ extended-place n f quoted short =
 
 -- ground 8 to the smoothing year
 adjusted-years-place : {m : ℕ} (a : ℤ) (year : ℕ) (ps : List Pair) → year + length ps ≤ m + 1 → place (adjustedYears a year ps) ≤ m
-unfolding adjustedYears
+unfolding adjustedYearsWith
 adjusted-years-place a year [] h = omega arith
 adjusted-years-place a year (p ∷ ps) h =
     let next = steps (bothEnds a) year p in
@@ -159,7 +159,7 @@ adjusted-years-place a year (p ∷ ps) h =
     (bind-place (adjustedYears a (year + 1) ps) _ (adjusted-years-place a (year + 1) ps (omega arith)) λ later e. omega arith)
 
 curve-place : (n : Numbers) → place (curveOf n) ≤ 150
-unfolding curveOf
+unfolding curveOfWith
 curve-place n =
     bind-place (bootstrap (usedQuotes n)) _ (omega (arith, bootstrap-place n))
     λ b d.
@@ -168,7 +168,7 @@ curve-place n =
     λ years e. omega arith
 
 adjusted-place : (n : Numbers) → place (adjustedCurve n) ≤ 150
-unfolding adjustedCurve
+unfolding adjustedCurveWith
 adjusted-place n =
     bind-place (bootstrap (usedQuotes n)) _ (omega (arith, bootstrap-place n))
     λ b d.
@@ -184,13 +184,13 @@ if-place true n = bind-place (adjustedCurve n) _ (adjusted-place n) λ c e. omeg
 if-place false n = omega arith
 
 pub curves-place : (n : Numbers) → place (curvesOf n) ≤ 150
-unfolding curvesOf
+unfolding curvesOfWith
 curves-place n = bind-place (curveOf n) _ (curve-place n) λ c e. bind-place (adjustedIf (n .adjusts) n) _ (if-place (n .adjusts) n) λ a d. omega arith
 
 -- ---- the answer of any bytes
 
 pub answer-place : (s : List ℕ) (g : Ground) → answer s ≡ refused g → placeOf g ≤ 150
-unfolding answer
+unfolding answerWith
 answer-place s g e = rw e at most
   where
     most : place (readSheet s >>= curvesOf) ≤ 150

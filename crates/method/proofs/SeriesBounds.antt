@@ -9,8 +9,10 @@ use lib.IntN.{ℤ, pos, negsuc, negℤ, natAbs}
 use Rattle.fraction.specs.Rounding.{U, ceilDiv}
 use Rattle.method.specs.Units.{Pair, SignedPair, signedPair}
 use Rattle.method.specs.Quotes.{lowerEnd, upperEnd}
-use Rattle.method.specs.Series.{logarithmSum, logarithm, G, gapForward, ultimateForward, growthSum, growth, growthLow, growthHigh}
+use Rattle.method.specs.Series.{logarithmSum, logarithm, G, gapForwardWith, gapForward, ultimateForwardWith, ultimateForward}
+use Rattle.method.specs.Series.{growthSum, growth, growthLow, growthHigh}
 use Rattle.method.proofs.Quotients.{Below, down-below-up, up-below-up, ceilDiv-≤}
+use Rattle.method.proofs.Slack.{added-most}
 use Rattle.method.proofs.Logarithm.{distance, logarithmLow, logarithmHigh, G-cases}
 use Rattle.method.specs.Ranges.{growthRange, logarithmBound}
 
@@ -69,7 +71,7 @@ module _ {round : ℕ → ℕ → ℕ} (b : Below round ceilDiv) where
 -- ---- E at an adjustment, of either side: e^0.005 is 1,005,012,520.9
 
 pub small-growths : (y : ℕ) → y ≤ 5_000_000 → (growthLow y ≤ smallGrowth) × (growthHigh y ≤ smallGrowth)
-small-growths y h = (omega (arith, growth-small down-below-up h), omega (arith, growth-small up-below-up h))
+small-growths y h = (omega (arith, growth-small down-below-up h), omega (arith, growth-small up-below-up h, added-most 0 y))
 
 -- ---- the logarithm and the two forwards
 
@@ -89,12 +91,13 @@ G-bound x l h =
     let ninth : 9 * distance x ≤ U + x = omega arith in
     let low = logarithm-≤ down-below-up (distance x) x ninth in
     let high = logarithm-≤ up-below-up (distance x) x ninth in
+    let gained = added-most U x in
     G-cases x Bounded (λ below. omega arith) (λ above. negated (signedPair (pos (logarithmLow x)) (pos (logarithmHigh x))) (omega arith))
 
 pub gapForward-bound : (x : Pair) → lowerEnd ≤ x .low → x .low ≤ upperEnd → lowerEnd ≤ x .high → x .high ≤ upperEnd → Bounded (gapForward x)
-unfolding gapForward
+unfolding gapForwardWith
 gapForward-bound x ll lu hl hu = (G-bound (x .high) hl hu .0, G-bound (x .low) ll lu .1)
 
 pub ultimateForward-bound : (u : ℕ) → u ≤ 10_000 → Bounded (ultimateForward u)
-unfolding ultimateForward
+unfolding ultimateForwardWith
 ultimateForward-bound u h = negated (G (U + 10_000 * u)) (G-bound (U + 10_000 * u) (omega arith) (omega arith))

@@ -28,7 +28,7 @@ use Rattle.method.specs.Units.{Pair, pair, SignedPair}
 use Rattle.method.specs.Grounds.{highAboveLimit, Outcome, done, _>>=_}
 use Rattle.method.specs.Quotes.{highestFactor}
 use Rattle.method.specs.Series.{growth}
-use Rattle.method.specs.Extrapolation.{forward, stepLow, stepHigh, step, extrapolate}
+use Rattle.method.specs.Extrapolation.{forward, stepLow, stepHigh, stepWith, step, extrapolateWith, extrapolate}
 use Rattle.method.specs.True.{billion, factorial, expSum, exp, convergence, yearForward, extrapolated}
 use Rattle.method.proofs.Enclosed.{AllEnclosed, none, more}
 use Rattle.method.proofs.Outcome.{bind-done, demand-done, done-injective}
@@ -153,7 +153,7 @@ step-at n (negsuc a) {y = y} k h =
 pub step-encloses : (n : ℕ) (f : SignedPair) (p : Pair) {x y : ℚ} → Within 250_000_000 f →
     Encloses (f .low) (f .high) x → Encloses (pos (p .low)) (pos (p .high)) y →
     Encloses (pos (step f p .low)) (pos (step f p .high)) (y *ℚ exp n (negℚ (x ÷ billion)))
-unfolding step
+unfolding stepWith
 step-encloses n f p {x} {y} w hx hy =
     record {
       below = ≤ℚ-trans (step-at n (f .high) (w .high-within .bound) hy .below) (*ℚ-mono-right (encloses-nonNegative hy) (falls (hx .above)));
@@ -173,7 +173,7 @@ record Years (l f : SignedPair) (κ : Pair) (κs : List Pair) (year : ℕ) (p : 
 
 years : (l f : SignedPair) (κ : Pair) (κs : List Pair) (year : ℕ) (p : Pair) {qs : List Pair} → extrapolate l f (κ ∷ κs) year p ≡ done qs →
     Years l f κ κs year p qs
-unfolding extrapolate
+unfolding extrapolateWith
 years l f κ κs year p e =
     let next = step (forward l f κ) p in
     let later = extrapolate l f κs (year + 1) next in
@@ -183,7 +183,7 @@ years l f κ κs year p e =
     record { later = worked .0; is = done-injective (worked .2); high = leb-true _ _ (tested .0); rest = worked .1 }
 
 no-years : (l f : SignedPair) (year : ℕ) (p : Pair) {qs : List Pair} → extrapolate l f [] year p ≡ done qs → [] ≡ qs
-unfolding extrapolate
+unfolding extrapolateWith
 no-years l f year p e = done-injective e
 
 pub extrapolate-length : (l f : SignedPair) (κs : List Pair) (year : ℕ) (p : Pair) {qs : List Pair} → extrapolate l f κs year p ≡ done qs →

@@ -37,11 +37,11 @@ module _ (f : ℕ → ℚ) (n : (i : ℕ) → NonNegative (f i)) (k : ℕ) (halv
       subst (λ (m : ℕ). sumℚ f m ≤ℚ sumℚ f k +ℚ natℚ 2 *ℚ f k) (c .1)
       (≤ℚ-trans (≤-+ℚ-right (sumℚ f (k + c .0)) (*ℚ-nonNegative (natℚ-nonNegative 2) (n (k + c .0)))) (falls (c .0)))
 
-  -- where that is at most 1, a pair that encloses c × the first k terms encloses c × any longer sum once 1 is added to its high
-  pub tail-covered : {c : ℚ} → NonNegative c → c *ℚ (natℚ 2 *ℚ f k) ≤ℚ natℚ 1 → {low high : ℕ} →
-      Encloses (pos low) (pos high) (c *ℚ sumℚ f k) → (j : ℕ) → k ≤ j → Encloses (pos low) (pos (high + 1)) (c *ℚ sumℚ f j)
-  tail-covered {c} p small {low} {high} e j h =
+  -- where that is at most m, a pair that encloses c × the first k terms encloses c × any longer sum once m is added to its high
+  pub tail-covered : {c : ℚ} → NonNegative c → (m : ℕ) → c *ℚ (natℚ 2 *ℚ f k) ≤ℚ natℚ m → {low high : ℕ} →
+      Encloses (pos low) (pos high) (c *ℚ sumℚ f k) → (j : ℕ) → k ≤ j → Encloses (pos low) (pos (high + m)) (c *ℚ sumℚ f j)
+  tail-covered {c} p m small {low} {high} e j h =
       nat-encloses
       (≤ℚ-trans (nat-below e) (*ℚ-mono-right p (sumℚ-more f n k j h)))
       (≤ℚ-trans (*ℚ-mono-right p (tail-≤ j h))
-      (≈-≤ℚ-trans (*ℚ-+ℚ c (sumℚ f k) (natℚ 2 *ℚ f k)) (≤ℚ-≈-trans (+ℚ-mono (nat-above e) small) (≈-sym (natℚ-+ high 1)))))
+      (≈-≤ℚ-trans (*ℚ-+ℚ c (sumℚ f k) (natℚ 2 *ℚ f k)) (≤ℚ-≈-trans (+ℚ-mono (nat-above e) small) (≈-sym (natℚ-+ high m)))))

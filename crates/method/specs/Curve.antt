@@ -10,8 +10,8 @@ use Rattle.method.specs.Units.{Which, plain, adjusted, Pair, pair, Signe
 use Rattle.method.specs.Grounds.{bandTooWide, Outcome, done, _>>=_, demand}
 use Rattle.method.specs.Sheet.{Numbers, readSheet, maturities}
 use Rattle.method.specs.Quotes.{Bootstrap, used, kept, Quote, bootstrap, quotesOf, lastYear}
-use Rattle.method.specs.Series.{gapForward, ultimateForward}
-use Rattle.method.specs.Extrapolation.{llfr, convergenceFactor, weights, extrapolate, adjustedYears, firstRaised, firstTooWide}
+use Rattle.method.specs.Series.{gapForwardWith, ultimateForwardWith}
+use Rattle.method.specs.Extrapolation.{llfr, convergenceFactor, weights, extrapolateWith, adjustedYearsWith, firstRaised, firstTooWide}
 
 pub record Curve : Type 0 where
   pub month : ℕ
@@ -55,9 +55,9 @@ spread d [] xs = []
 spread d (u ∷ us) [] = d ∷ spread d us []
 spread d (u ∷ us) (x ∷ xs) = x ∷ spread d us (cond u xs (x ∷ xs))
 
--- g1 to g5: their forwards
-abbrev pub gapForwards : Numbers → Bootstrap → List SignedPair
-gapForwards n b = map gapForward (spread (pair U U) (drop smoothingIndex (usedBy n)) (drop 2 (b .yearlyFactors)))
+-- g1 to g5: their forwards. `slack` is what a known logarithm or growth gains (Series)
+abbrev pub gapForwardsWith : ℕ → Numbers → Bootstrap → List SignedPair
+gapForwardsWith slack n b = map (gapForwardWith slack) (spread (pair U U) (drop smoothingIndex (usedBy n)) (drop 2 (b .yearlyFactors)))
 
 -- the sheet's convergence factor
 unfoldable pub factorOf : Numbers → ℕ
@@ -71,40 +71,63 @@ withinLimit limit years = do
   done years
 
 -- from the quoted years and LLFR: the years to 150, with grounds 8 and 10
-unfoldable pub extended : Numbers → SignedPair → List Pair → Outcome (List Pair)
-extended n f quoted = do
+unfoldable pub extendedWith : ℕ → Numbers → SignedPair → List Pair → Outcome (List Pair)
+extendedWith slack n f quoted = do
   let κs = weights (factorOf n) (150 - length quoted)
-  later ← extrapolate (ultimateForward (n .ultimate)) f κs (length quoted + 1) (lastYear quoted)
+  later ← extrapolateWith slack (ultimateForwardWith slack (n .ultimate)) f κs (length quoted + 1) (lastYear quoted)
   withinLimit (n .limit) (quoted ++ later)
 
 abbrev pub curveWith : Numbers → List Pair → Curve
 curveWith n years = record { month = n .month; limit = n .limit; lows = map (λ p. p .low) years; highs = map (λ p. p .high) years }
 
 -- grounds 7 to 10 on the plain curve
-unfoldable pub curveOf : Numbers → Outcome Curve
-curveOf n = do
+unfoldable pub curveOfWith : ℕ → Numbers → Outcome Curve
+curveOfWith slack n = do
   b ← bootstrap (usedQuotes n)
-  years ← extended n (llfr (n .volumes) (gapForwards n b)) (take smoothingYear (b .factors))
+  years ← extendedWith slack n (llfr (n .volumes) (gapForwardsWith slack n b)) (take smoothingYear (b .factors))
   done (curveWith n years)
 
 -- then 8 and 10 on the adjusted one: the same quotes, with the adjustment in the years to 20 and in g1
-unfoldable pub adjustedCurve : Numbers → Outcome Curve
-adjustedCurve n = do
+unfoldable pub adjustedCurveWith : ℕ → Numbers → Outcome Curve
+adjustedCurveWith slack n = do
   b ← bootstrap (usedQuotes n)
-  quoted ← adjustedYears (n .adjustment) 1 (take smoothingYear (b .factors))
-  years ← extended n (llfr (n .volumes) (firstRaised (n .adjustment) (gapForwards n b))) quoted
+  quoted ← adjustedYearsWith slack (n .adjustment) 1 (take smoothingYear (b .factors))
+  years ← extendedWith slack n (llfr (n .volumes) (firstRaised (n .adjustment) (gapForwardsWith slack n b))) quoted
   done (curveWith n years)
 
 -- where the sheet has an adjustment
-abbrev pub adjustedIf : Bool → Numbers → Outcome (Held Curve)
-adjustedIf true n = adjustedCurve n >>= λ c. done (some c)
-adjustedIf false n = done none
+abbrev pub adjustedIfWith : ℕ → Bool → Numbers → Outcome (Held Curve)
+adjustedIfWith slack true n = adjustedCurveWith slack n >>= λ c. done (some c)
+adjustedIfWith slack false n = done none
 
-unfoldable pub curvesOf : Numbers → Outcome Curves
-curvesOf n = do
-  c ← curveOf n
-  a ← adjustedIf (n .adjusts) n
+unfoldable pub curvesOfWith : ℕ → Numbers → Outcome Curves
+curvesOfWith slack n = do
+  c ← curveOfWith slack n
+  a ← adjustedIfWith slack (n .adjusts) n
   done (record { plain = c; adjusted = a })
 
-unfoldable pub answer : List ℕ → Outcome Curves
-answer s = readSheet s >>= curvesOf
+unfoldable pub answerWith : ℕ → List ℕ → Outcome Curves
+answerWith slack s = readSheet s >>= curvesOfWith slack
+
+-- ---- at present: no slack
+
+abbrev pub gapForwards : Numbers → Bootstrap → List SignedPair
+gapForwards = gapForwardsWith 0
+
+abbrev pub extended : Numbers → SignedPair → List Pair → Outcome (List Pair)
+extended = extendedWith 0
+
+abbrev pub curveOf : Numbers → Outcome Curve
+curveOf = curveOfWith 0
+
+abbrev pub adjustedCurve : Numbers → Outcome Curve
+adjustedCurve = adjustedCurveWith 0
+
+abbrev pub adjustedIf : Bool → Numbers → Outcome (Held Curve)
+adjustedIf = adjustedIfWith 0
+
+abbrev pub curvesOf : Numbers → Outcome Curves
+curvesOf = curvesOfWith 0
+
+abbrev pub answer : List ℕ → Outcome Curves
+answer = answerWith 0

@@ -1,7 +1,8 @@
--- Curves as they were worked earlier, which the present one is shown to be, digit for digit, where what came later is not asked for
--- (`proofs/Earlier`).
-use mathlib.Core.List.{_++_, map}
-use Prim.Native.Nat.{_+_}
+-- Curves as they were worked earlier. Two of them the present one is shown to be, digit for digit, where what came later is not asked
+-- for (`proofs/Earlier`); inside the bands of the third it is shown to lie (`proofs/Inside`).
+use mathlib.Core.Path.{_≡_}
+use mathlib.Core.List.{List, _++_, map}
+use Prim.Native.Nat.{ℕ, _+_, _≤_}
 use lib.ListN.{take, drop}
 use Rattle.method.specs.Grounds.{Outcome, done, _>>=_}
 use Rattle.method.specs.Sheet.{Numbers, maturities}
@@ -9,7 +10,10 @@ use Rattle.method.specs.Quotes.{bootstrap, quotesOf, lastYear}
 use Rattle.method.specs.Series.{gapForward, ultimateForward}
 use Rattle.method.specs.Table.{table}
 use Rattle.method.specs.Extrapolation.{llfr, κPairs, extrapolate}
-use Rattle.method.specs.Curve.{Curve, smoothingYear, usedQuotes, gapForwards, withinLimit, extended, curveWith}
+use Rattle.method.specs.Units.{Which}
+use Rattle.method.specs.Curve.{Curve, Held, Curves, curveNamed, smoothingYear, usedQuotes, gapForwards, withinLimit, extended, curveWith}
+use Rattle.method.specs.Curve.{answerWith, answer}
+use Rattle.method.specs.Enclosure.{lowOf, highOf}
 
 -- before the phase-in: the table's weights, whatever the sheet's factor is. A sheet whose factor is 10% has this curve (`at-ten-percent`),
 -- and so has each of up to 109 bytes (`earlier-answer`).
@@ -28,3 +32,31 @@ everyQuoteCurve n = do
   b ← bootstrap (quotesOf maturities (n .rates))
   years ← extended n (llfr (n .volumes) (map gapForward (drop 2 (b .yearlyFactors)))) (take smoothingYear (b .factors))
   done (curveWith n years)
+
+-- before a known logarithm or growth gained nothing: slack 1
+abbrev pub earlierAnswer : List ℕ → Outcome Curves
+earlierAnswer = answerWith 1
+
+-- ---- bands that lie inside the earlier ones
+
+-- in every year: of month and limit as they were
+pub record CurveInside (c earlier : Curve) : Type 0 where
+  pub same-month : c .month ≡ earlier .month
+  pub same-limit : c .limit ≡ earlier .limit
+  pub low-inside : (t : ℕ) → lowOf earlier t ≤ lowOf c t
+  pub high-inside : (t : ℕ) → highOf c t ≤ highOf earlier t
+
+-- a curve on both sides, or on neither
+pub data HeldInside : Held Curve → Held Curve → Type 0 where
+  neither : HeldInside Held.none Held.none
+  both : {c earlier : Curve} → CurveInside c earlier → HeldInside (Held.some c) (Held.some earlier)
+
+-- the plain curve's and the adjusted one's
+abbrev pub CurvesInside : Curves → Curves → Type 0
+CurvesInside cs earlier = (w : Which) → HeldInside (curveNamed w cs) (curveNamed w earlier)
+
+-- a sheet is accepted, with bands inside these
+pub record AcceptedInside (s : List ℕ) (earlier : Curves) : Type 0 where
+  pub curves : Curves
+  pub accepted : answer s ≡ done curves
+  pub inside : CurvesInside curves earlier

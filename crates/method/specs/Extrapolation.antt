@@ -11,7 +11,7 @@ use Rattle.method.specs.Units.{Pair, pair, SignedPair, signedPair}
 use Rattle.method.specs.Grounds.{highAboveLimit, Outcome, done, _>>=_, demand}
 use Rattle.method.specs.Sheet.{total}
 use Rattle.method.specs.Quotes.{highestFactor}
-use Rattle.method.specs.Series.{growthLow, growthHigh}
+use Rattle.method.specs.Series.{growthLow, growthHigh, growthHighWith}
 use Rattle.method.specs.Table.{table}
 
 -- ---- LLFR, from the volumes at 20, 25, 30, 40, 50 and the lows, or the highs, of g1 to g5
@@ -67,7 +67,7 @@ unfoldable pub κPairs : List ℕ → List Pair
 abbrev pub scaled : Pair → Pair → Pair
 scaled a b = pair (a .low * b .low / U) (ceilDiv (a .high * b .high) U)
 
--- q = U × U / E at 10 × a
+-- q = U × U / E at 10 × a, which is never 0
 unfoldable pub decayPair : ℕ → Pair
 decayPair a = pair (U * U / growthHigh (10 * a)) (ceilDiv (U * U) (growthLow (10 * a)))
 
@@ -103,29 +103,29 @@ forward l f κ =
     (smaller (floor (blend (l .low) (f .low) (κ .low)) U) (floor (blend (l .low) (f .low) (κ .high)) U))
     (larger (ceiling (blend (l .high) (f .high) (κ .low)) U) (ceiling (blend (l .high) (f .high) (κ .high)) U))
 
--- ---- the year's step: times e to minus the forward
+-- ---- the year's step: times e to minus the forward. `slack` is what a known logarithm or growth gains (Series)
 
 -- with f the forward's high
-abbrev pub stepLow : ℤ → ℕ → ℕ
-stepLow (pos f) low = low * U / growthHigh f
-stepLow (negsuc f) low = low * growthLow (suc f) / U
+abbrev pub stepLowWith : ℕ → ℤ → ℕ → ℕ
+stepLowWith slack (pos f) low = low * U / growthHighWith slack f
+stepLowWith slack (negsuc f) low = low * growthLow (suc f) / U
 
 -- with f the forward's low
-abbrev pub stepHigh : ℤ → ℕ → ℕ
-stepHigh (pos f) high = ceilDiv (high * U) (growthLow f)
-stepHigh (negsuc f) high = ceilDiv (high * growthHigh (suc f)) U
+abbrev pub stepHighWith : ℕ → ℤ → ℕ → ℕ
+stepHighWith slack (pos f) high = ceilDiv (high * U) (growthLow f)
+stepHighWith slack (negsuc f) high = ceilDiv (high * growthHighWith slack (suc f)) U
 
-unfoldable pub step : SignedPair → Pair → Pair
-step f p = pair (stepLow (f .high) (p .low)) (stepHigh (f .low) (p .high))
+unfoldable pub stepWith : ℕ → SignedPair → Pair → Pair
+stepWith slack f p = pair (stepLowWith slack (f .high) (p .low)) (stepHighWith slack (f .low) (p .high))
 
 -- ---- the years after the smoothing year, one for each κ pair
 
-unfoldable pub extrapolate : SignedPair → SignedPair → List Pair → ℕ → Pair → Outcome (List Pair)
-extrapolate l f [] year p = done []
-extrapolate l f (κ ∷ κs) year p = do
-  let next = step (forward l f κ) p
+unfoldable pub extrapolateWith : ℕ → SignedPair → SignedPair → List Pair → ℕ → Pair → Outcome (List Pair)
+extrapolateWith slack l f [] year p = done []
+extrapolateWith slack l f (κ ∷ κs) year p = do
+  let next = stepWith slack (forward l f κ) p
   _ ← demand (leb (next .high) highestFactor) (highAboveLimit year)
-  later ← extrapolate l f κs (year + 1) next
+  later ← extrapolateWith slack l f κs (year + 1) next
   done (next ∷ later)
 
 -- ---- the volatility adjustment: years to the smoothing year, and LLFR's first forward
@@ -135,17 +135,17 @@ abbrev pub billionths : ℤ → ℤ
 billionths a = a *ℤ pos 10_000
 
 -- t times through the year's step
-unfoldable pub steps : SignedPair → ℕ → Pair → Pair
-steps f zero p = p
-steps f (suc t) p = steps f t (step f p)
+unfoldable pub stepsWith : ℕ → SignedPair → ℕ → Pair → Pair
+stepsWith slack f zero p = p
+stepsWith slack f (suc t) p = stepsWith slack f t (stepWith slack f p)
 
 -- year t is taken t times, with the adjustment as the forward's low and high
-unfoldable pub adjustedYears : ℤ → ℕ → List Pair → Outcome (List Pair)
-adjustedYears a year [] = done []
-adjustedYears a year (p ∷ ps) = do
-  let next = steps (signedPair (billionths a) (billionths a)) year p
+unfoldable pub adjustedYearsWith : ℕ → ℤ → ℕ → List Pair → Outcome (List Pair)
+adjustedYearsWith slack a year [] = done []
+adjustedYearsWith slack a year (p ∷ ps) = do
+  let next = stepsWith slack (signedPair (billionths a) (billionths a)) year p
   _ ← demand (leb (next .high) highestFactor) (highAboveLimit year)
-  later ← adjustedYears a (year + 1) ps
+  later ← adjustedYearsWith slack a (year + 1) ps
   done (next ∷ later)
 
 -- g1 gains as much at both ends
@@ -159,3 +159,23 @@ firstTooWide limit year [] = 0
 firstTooWide limit year (p ∷ ps) =
     let rest = firstTooWide limit (year + 1) ps in
     cond (leb (p .high - p .low) limit) rest year
+
+-- ---- at present: no slack
+
+abbrev pub stepLow : ℤ → ℕ → ℕ
+stepLow = stepLowWith 0
+
+abbrev pub stepHigh : ℤ → ℕ → ℕ
+stepHigh = stepHighWith 0
+
+abbrev pub step : SignedPair → Pair → Pair
+step = stepWith 0
+
+abbrev pub extrapolate : SignedPair → SignedPair → List Pair → ℕ → Pair → Outcome (List Pair)
+extrapolate = extrapolateWith 0
+
+abbrev pub steps : SignedPair → ℕ → Pair → Pair
+steps = stepsWith 0
+
+abbrev pub adjustedYears : ℤ → ℕ → List Pair → Outcome (List Pair)
+adjustedYears = adjustedYearsWith 0

@@ -8,6 +8,6 @@ pub mod Series
 pub mod Table
 pub mod Extrapolation
 pub mod Curve
-pub mod Earlier
 pub mod True
 pub mod Enclosure
+pub mod Earlier

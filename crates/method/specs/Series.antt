@@ -1,10 +1,14 @@
 -- SPECIFICATION 4: logarithm and growth.
 use mathlib.Core.Bool.{cond}
 use Prim.Native.Nat.{ℕ, zero, suc, _+_, _*_, _-_, _/_}
-use lib.Dec.{leb}
+use lib.Dec.{leb, eqb}
 use lib.IntN.{pos, negℤ}
 use Rattle.fraction.specs.Rounding.{U, ceilDiv}
 use Rattle.method.specs.Units.{Pair, SignedPair, signedPair}
+
+-- ---- what a high gains: 1, and at the one argument whose result is known `slack`: 0 at present, 1 earlier
+unfoldable pub added : ℕ → ℕ → ℕ → ℕ
+added slack known x = cond (eqb x known) slack 1
 
 -- ---- G(x) = -ln x; `round` is the quotient down for the low and up for the high
 
@@ -20,21 +24,21 @@ logarithm round d x =
     let s = round (z * z) U in
     2 * logarithmSum round s 1 z 5
 
--- 1 is added to the high; for x above U the pair is negated
-unfoldable pub G : ℕ → SignedPair
-G x =
+-- known at U; for x above U the pair is negated
+unfoldable pub GWith : ℕ → ℕ → SignedPair
+GWith slack x =
     let d = (U - x) + (x - U) in
     let low = logarithm _/_ d x in
-    let high = logarithm ceilDiv d x + 1 in
+    let high = logarithm ceilDiv d x + added slack U x in
     cond (leb x U) (signedPair (pos low) (pos high)) (signedPair (negℤ (pos high)) (negℤ (pos low)))
 
 -- a gap's forward, from its low and high x
-unfoldable pub gapForward : Pair → SignedPair
-gapForward x = signedPair (G (x .high) .low) (G (x .low) .high)
+unfoldable pub gapForwardWith : ℕ → Pair → SignedPair
+gapForwardWith slack x = signedPair (GWith slack (x .high) .low) (GWith slack (x .low) .high)
 
 -- L = ln(1 + UFR) is minus G at U + 10,000 × UFR
-unfoldable pub ultimateForward : ℕ → SignedPair
-ultimateForward ufr = let g = G (U + 10_000 * ufr) in signedPair (negℤ (g .high)) (negℤ (g .low))
+unfoldable pub ultimateForwardWith : ℕ → ℕ → SignedPair
+ultimateForwardWith slack ufr = let g = GWith slack (U + 10_000 * ufr) in signedPair (negℤ (g .high)) (negℤ (g .low))
 
 -- ---- E(y), the sum t0 + .. + t7
 
@@ -49,6 +53,20 @@ growth round y = U + growthSum round y 1 U 7
 abbrev pub growthLow : ℕ → ℕ
 growthLow y = growth _/_ y
 
--- 1 is added to the high
+-- known at 0
+abbrev pub growthHighWith : ℕ → ℕ → ℕ
+growthHighWith slack y = growth ceilDiv y + added slack 0 y
+
+-- ---- at present: no slack
+
+abbrev pub G : ℕ → SignedPair
+G = GWith 0
+
+abbrev pub gapForward : Pair → SignedPair
+gapForward = gapForwardWith 0
+
+abbrev pub ultimateForward : ℕ → SignedPair
+ultimateForward = ultimateForwardWith 0
+
 abbrev pub growthHigh : ℕ → ℕ
-growthHigh y = growth ceilDiv y + 1
+growthHigh = growthHighWith 0

@@ -6,7 +6,7 @@ use native.Mathlib.Nat.{le-trans}
 use native.Mathlib.Omega.{arith}
 use Rattle.fraction.specs.Rounding.{U, roundℕ}
 use Rattle.method.specs.Ranges.{growthRange, growthBound}
-use Rattle.method.specs.Series.{growthSum, growth}
+use Rattle.method.specs.Series.{added, growthSum, growth}
 use Rattle.method.proofs.Growth.{growthLow-≥, growthLow-≤-growthHigh, growthHigh-≤}
 use Rattle.method.proofs.SeriesBounds.{t-≤}
 use Rattle.series.specs.Sides.{growthBy}
@@ -23,7 +23,7 @@ growth-most false {y} h = le-trans (growthLow-≤-growthHigh y) (growthHigh-≤ 
 pub growth-in-range : (up : Bool) {y r : ℕ} → y ≤ growthRange → r ≡ growthBy up y → (r ≡ growthBy up y) × (U ≤ r) × (r ≤ growthBound)
 growth-in-range up {y} h e = (e, rw e (growth-least up y), rw e (growth-most up h))
 
--- before the 1 is added to the high
+-- before anything is added to the high, and with it
 pub growth-below : (up : Bool) {y : ℕ} → y ≤ growthRange → growth (roundℕ up) y ≤ growthBound
 growth-below true h = omega (arith, growth-most true h)
 growth-below false h = growth-most false h
@@ -64,8 +64,8 @@ module _ {y : ℕ} {up : Bool} {t sum i : ℕ} (d : Grown y up t sum i) where
       let whole : sum + 0 ≡ growth (roundℕ up) y = rw k at (d .whole) in
       omega arith
 
-  pub grown-high : 8 ≤ i → up ≡ true → sum + 1 ≡ growthBy up y
-  grown-high h t = rw (t, rw t at (grown h))
+  pub grown-high : 8 ≤ i → up ≡ true → {gain : ℕ} → gain ≡ added 0 0 y → sum + gain ≡ growthBy up y
+  grown-high h t a = rw (t, rw t at (grown h), a)
 
   pub grown-low : 8 ≤ i → up ≡ false → sum ≡ growthBy up y
   grown-low h t = rw (t, rw t at (grown h))

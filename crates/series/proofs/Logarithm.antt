@@ -12,7 +12,7 @@ use Rattle.fraction.specs.Rounding.{U, ceilDiv, roundℕ}
 use Rattle.method.specs.Units.{signedPair}
 use Rattle.method.specs.Quotes.{lowerEnd, upperEnd}
 use Rattle.method.specs.Ranges.{logarithmBound}
-use Rattle.method.specs.Series.{logarithmSum, logarithm, G}
+use Rattle.method.specs.Series.{added, logarithmSum, logarithm, GWith, G}
 use Rattle.method.proofs.Logarithm.{distance}
 use Rattle.method.proofs.Quotients.{Below, down-below-up, up-below-up}
 use Rattle.method.proofs.SeriesBounds.{zBound, sBound, z-≤, s-≤, p-≤, logarithm-≤}
@@ -82,26 +82,26 @@ module _ {up : Bool} {x s p sum i : ℕ} (d : Summed up x s p sum i) where
 
 -- ---- G, from its two sides
 
-module _ {x low high : ℕ} (l : low ≡ size false x) (h : high ≡ size true x) where
-  pub G-to-U : x ≤ U → signedPair (pos low) (pos (high + 1)) ≡ G x
-  unfolding G
-  G-to-U e = rw (le-leb x U e, l, h)
+module _ {x low high gain : ℕ} (l : low ≡ size false x) (h : high ≡ size true x) (a : gain ≡ added 0 U x) where
+  pub G-to-U : x ≤ U → signedPair (pos low) (pos (high + gain)) ≡ G x
+  unfolding GWith
+  G-to-U e = rw (le-leb x U e, l, h, a)
 
-  pub G-above-U : U < x → negated (signedPair (pos low) (pos (high + 1))) ≡ G x
-  unfolding G
-  G-above-U e = rw (lt-leb x U e, l, h)
+  pub G-above-U : U < x → negated (signedPair (pos low) (pos (high + gain))) ≡ G x
+  unfolding GWith
+  G-above-U e = rw (lt-leb x U e, l, h, a)
 
--- ---- the machine's pair of two unsigned sizes, 1 added to the high
+-- ---- the machine's pair of two unsigned sizes, at most 1 added to the high
 
-module _ {low high : ℕ} (l : low < logarithmBound) (h : high < logarithmBound) where
+module _ {low high gain : ℕ} (l : low < logarithmBound) (h : high < logarithmBound) (a : gain ≤ 1) where
   low-is : toZ w64 low ≡ pos low
   low-is = natural-is low {M = logarithmBound} (omega arith) tt
 
-  high-is : toZ w64 (high + 1) ≡ pos (high + 1)
-  high-is = natural-is (high + 1) {M = logarithmBound} (omega arith) tt
+  high-is : toZ w64 (high + gain) ≡ pos (high + gain)
+  high-is = natural-is (high + gain) {M = logarithmBound} (omega arith) tt
 
-  pub cast-is : asSignedPair (record { low = toZ w64 low; high = toZ w64 (high + 1) }) ≡ signedPair (pos low) (pos (high + 1))
+  pub cast-is : asSignedPair (record { low = toZ w64 low; high = toZ w64 (high + gain) }) ≡ signedPair (pos low) (pos (high + gain))
   cast-is = rw (low-is, high-is)
 
-  pub cast-size : SizeAtMost logarithmBound (record { low = toZ w64 low; high = toZ w64 (high + 1) })
+  pub cast-size : SizeAtMost logarithmBound (record { low = toZ w64 low; high = toZ w64 (high + gain) })
   cast-size = record { low-size = rw low-is (omega arith); high-size = rw high-is (omega arith) }

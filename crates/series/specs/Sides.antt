@@ -5,7 +5,7 @@ use lib.IntN.{negℤ}
 use Rattle.method.specs.Units.{SignedPair, signedPair}
 use Rattle.method.specs.Series.{growthLow, growthHigh}
 
--- E by side: the high, with its 1 added, or the low
+-- E by side: the high, with what is added to it, or the low
 abbrev pub growthBy : Bool → ℕ → ℕ
 growthBy true = growthHigh
 growthBy false = growthLow

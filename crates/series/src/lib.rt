@@ -7,7 +7,7 @@ ghost use Prim.Native.Nat.{_+_, _-_, _≤_, _<_};
 ghost use Rattle.fraction.specs.Rounding.{U, roundℕ};
 ghost use Rattle.method.specs.Ranges.{logarithmBound, growthRange, growthBound, YearlyFactor};
 ghost use Rattle.method.specs.Quotes.{lowerEnd, upperEnd};
-ghost use Rattle.method.specs.Series.{logarithm, G, gapForward, ultimateForward};
+ghost use Rattle.method.specs.Series.{added, logarithm, G, gapForward, ultimateForward};
 ghost use Rattle.rounding.specs.Pairs.{asPair, asSignedPair, SizeAtMost};
 ghost use Rattle.series.specs.Sides.{growthBy, negated};
 
@@ -19,6 +19,14 @@ const LOG_TERMS: u64 = 5;
 
 const GROWTH_TERMS: u64 = 7;
 
+// ---- what a high gains (SPECIFICATION 4): 1, and nothing where the result is known
+
+fn added(known: u64, x: u64) -> u64
+    ensures { λ r. ⌜ (r ≡ added 0 known x) × (r ≤ 1) ⌝ }
+{
+    if x == known { 0 } else { 1 }
+}
+
 // ---- G(x) = -ln x (SPECIFICATION 4.1), and the forwards made from it (4.2)
 
 fn distance_to_unit(x: u64) -> u64
@@ -27,7 +35,7 @@ fn distance_to_unit(x: u64) -> u64
     if x <= UNIT { UNIT - x } else { x - UNIT }
 }
 
-// |ln x|, without the 1 that is added to the high.
+// |ln x|, without what is added to the high.
 fn log_size(x: u64, up: bool) -> u64
     requires { ⌜ (lowerEnd ≤ x) × (x ≤ upperEnd) ⌝ }
     ensures { λ r. ⌜ (r ≡ logarithm (roundℕ up) ((U - x) + (x - U)) x) × (r < logarithmBound) ⌝ }
@@ -58,7 +66,7 @@ pub fn minus_log(x: u64) -> SignedPair
     ensures { λ r. ⌜ (asSignedPair r ≡ G x) × SizeAtMost logarithmBound r ⌝ }
 {
     let low = log_size(x, false);
-    let high = log_size(x, true) + 1;
+    let high = log_size(x, true) + added(UNIT, x);
     let f = SignedPair {
         low: low as i64,
         high: high as i64,
@@ -89,7 +97,7 @@ pub fn ultimate_forward(ufr: u64) -> SignedPair
 
 // ---- E(y) = e^y (SPECIFICATION 4.3)
 
-// t0 + .. + t7, and 1 more for the high.
+// t0 + .. + t7, and what is added to the high.
 pub fn growth(y: u64, up: bool) -> u64
     requires { ⌜ y ≤ growthRange ⌝ }
     ensures { λ r. ⌜ (r ≡ growthBy up y) × (U ≤ r) × (r ≤ growthBound) ⌝ }
@@ -100,5 +108,5 @@ pub fn growth(y: u64, up: bool) -> u64
         t = rounding::quotient(t * y, i * UNIT, up);
         sum += t;
     }
-    if up { sum + 1 } else { sum }
+    if up { sum + added(0, y) } else { sum }
 }

@@ -12,7 +12,7 @@ worked =
     -- year 1 at 3% and at -0.5%: neither end of the band hits the rate
     zeroRates 1 (pair 970_873_786 970_873_787)
     ∷ zeroRates 1 (pair 1_005_025_125 1_005_025_126)
-    -- a factor of one, and the zero sheet's year 21
+    -- a factor of one, and a band about it in year 21
     ∷ zeroRates 1 (pair 1_000_000_000 1_000_000_000)
     ∷ zeroRates 21 (pair 999_999_992 1_000_000_008)
     -- the ends of the range, and one step past the upper

@@ -1,7 +1,7 @@
 -- The forward's ends are read back from their bits: they are the definition's forward, whose size is the method's bound.
 use mathlib.Core.Path.{_≡_}
 use Rattle.method.specs.Ranges.{forwardBound}
-use Rattle.method.specs.Extrapolation.{forward, step}
+use Rattle.method.specs.Extrapolation.{forward, stepWith}
 use Rattle.rounding.specs.Pairs.{asPair, asSignedPair, SizeAtMost}
 use Rattle.rounding.specs.declared.SignedPair.{SignedPair}
 use Rattle.extrapolation.proofs.Forwarding.{built, forward-is}
@@ -32,7 +32,7 @@ forward-end-requires-2 : tie.Need-forward-end-requires-2
 forward-end-requires-2 c κs = search needs
 
 returns : tie.Need-returns
-unfolding step
+unfolding stepWith
 returns c = rw (c .before .step-end .ensures, c .step-end2 .ensures, ← between-is (c .before .before) .0)
 
 step-end-requires : tie.Need-step-end-requires

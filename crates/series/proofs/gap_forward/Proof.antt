@@ -1,5 +1,5 @@
 -- Both ends are small, so the new pair stores them as they are.
-use Rattle.method.specs.Series.{gapForward}
+use Rattle.method.specs.Series.{gapForwardWith}
 use Rattle.rounding.proofs.Machine.{stored-is, stored-size}
 use borrow.Author.Needs.{needs}
 use Rattle.series.proofs.gap_forward.Statement.{statement}
@@ -12,7 +12,7 @@ minus-log-requires-2 : tie.Need-minus-log-requires-2
 minus-log-requires-2 c κs = search needs
 
 returns : tie.Need-returns
-unfolding gapForward
+unfolding gapForwardWith
 returns c =
     let from = c .before .before .before .minus-log in
     let to = c .before .before .minus-log2 in

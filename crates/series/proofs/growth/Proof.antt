@@ -39,15 +39,18 @@ add-i c = search needs
 loop-less : tie.Need-loop-less Inv-loop μ-loop
 loop-less c = search needs
 
+added-requires : tie.Need-added-requires Inv-loop μ-loop
+added-requires c κs = search needs
+
 add-result : tie.Need-add-result Inv-loop μ-loop
 add-result c =
-    let at = c .before .before in
-    record { fits = omega (arith, grown (at .loop .inv) (search needs), growth-below (at .before .args .up) (at .before .pre)) }
+    let at = c .before .before .before in
+    record { fits = omega (arith, grown (at .loop .inv) (search needs), growth-below (at .before .args .up) (at .before .pre), c .added .ensures .1) }
 
 returns : tie.Need-returns Inv-loop μ-loop
 returns c =
-    let at = c .before .before in
-    growth-in-range (at .before .args .up) (at .before .pre) (grown-high (at .loop .inv) (search needs) (c .if1 .taken))
+    let at = c .before .before .before in
+    growth-in-range (at .before .args .up) (at .before .pre) (grown-high (at .loop .inv) (search needs) (c .before .if1 .taken) (c .added .ensures .0))
 
 returns-2 : tie.Need-returns-2 Inv-loop μ-loop
 returns-2 c =
@@ -68,6 +71,7 @@ growth-spec =
     add-i
     loop-less
     loop-again
+    added-requires
     add-result
     returns
     returns-2)

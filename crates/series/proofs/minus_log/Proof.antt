@@ -12,31 +12,38 @@ log-size-requires c κs = search needs
 log-size-requires-2 : tie.Need-log-size-requires-2
 log-size-requires-2 c κs = search needs
 
+added-requires : tie.Need-added-requires
+added-requires c κs = search needs
+
 add-high : tie.Need-add-high
 add-high c = search needs
-
-cast-t6 : tie.Need-cast-t6
-cast-t6 c = search needs
 
 cast-t7 : tie.Need-cast-t7
 cast-t7 c = search needs
 
+cast-t8 : tie.Need-cast-t8
+cast-t8 c = search needs
+
 returns : tie.Need-returns
 returns c =
-    let low = c .before .before .log-size .ensures in
-    let high = c .before .log-size2 .ensures in
-    (cast-is (low .1) (high .1) ∙ G-to-U (low .0) (high .0) (c .if1 .taken), cast-size (low .1) (high .1))
+    let gain = c .before .added .ensures in
+    let high = c .before .before .log-size2 .ensures in
+    let low = c .before .before .before .log-size .ensures in
+    (cast-is (low .1) (high .1) (gain .1) ∙ G-to-U (low .0) (high .0) (gain .0) (c .if1 .taken), cast-size (low .1) (high .1) (gain .1))
 
 returns-2 : tie.Need-returns-2
 returns-2 c =
     let above = c .before in
-    let low = above .before .before .log-size .ensures in
-    let high = above .before .log-size2 .ensures in
-    let g = G-above-U (low .0) (high .0) (above .if1 .left) in
-    (c .negate .ensures .0 ∙ ap negated (cast-is (low .1) (high .1)) ∙ g, c .negate .ensures .1)
+    let gain = above .before .added .ensures in
+    let high = above .before .before .log-size2 .ensures in
+    let low = above .before .before .before .log-size .ensures in
+    let g = G-above-U (low .0) (high .0) (gain .0) (above .if1 .left) in
+    (c .negate .ensures .0 ∙ ap negated (cast-is (low .1) (high .1) (gain .1)) ∙ g, c .negate .ensures .1)
 
 negate-requires : tie.Need-negate-requires
-negate-requires c κs = cast-size (c .before .before .log-size .ensures .1) (c .before .log-size2 .ensures .1)
+negate-requires c κs =
+    let gained = c .before in
+    cast-size (gained .before .before .log-size .ensures .1) (gained .before .log-size2 .ensures .1) (gained .added .ensures .1)
 
 pub minus-log-spec : {M : Type 1} → statement M
 minus-log-spec =
@@ -44,9 +51,10 @@ minus-log-spec =
     (tie.spec
     log-size-requires
     log-size-requires-2
+    added-requires
     add-high
-    cast-t6
     cast-t7
+    cast-t8
     negate-requires
     returns
     returns-2)

@@ -1,6 +1,6 @@
 -- The definition's negation, written out.
 use mathlib.Core.Path.{ap, _∙_}
-use Rattle.method.specs.Series.{ultimateForward}
+use Rattle.method.specs.Series.{ultimateForwardWith}
 use Rattle.series.specs.Sides.{negated}
 use borrow.Author.Needs.{needs}
 use Rattle.series.proofs.ultimate_forward.Statement.{statement}
@@ -19,7 +19,7 @@ negate-requires : tie.Need-negate-requires
 negate-requires c κs = search needs
 
 returns : tie.Need-returns
-unfolding ultimateForward
+unfolding ultimateForwardWith
 returns c = (c .negate .ensures .0 ∙ ap negated (c .before .minus-log .ensures .0), c .negate .ensures .1)
 
 pub ultimate-forward-spec : {M : Type 1} → statement M
