@@ -309,7 +309,7 @@ static Ground add_gap(Quoted *quoted, int years, int64_t rate, Pair *x) {
     return none;
 }
 
-/* Logarithm and growth [4]. */
+/* Logarithm and growth [4]. To their highs 1 is added, but not where the value is known: at U and at 0. */
 
 static int64_t log_sum_down(int64_t x) {
     int64_t z = over_down((x > U ? x - U : U - x) * U, U + x), s = times_down(z, z);
@@ -325,7 +325,7 @@ static int64_t log_sum_up(int64_t x) {
 
 static int64_t log_low(int64_t x) { return x > U ? -(log_sum_up(x) + 1) : log_sum_down(x); }
 
-static int64_t log_high(int64_t x) { return x > U ? -log_sum_down(x) : log_sum_up(x) + 1; }
+static int64_t log_high(int64_t x) { return x > U ? -log_sum_down(x) : log_sum_up(x) + (x != U); }
 
 static int64_t growth_low(int64_t y) {
     int64_t term = U, sum = U;
@@ -342,7 +342,7 @@ static int64_t growth_high(int64_t y) {
         term = over_up(term * y, i * U);
         sum += term;
     }
-    return sum + 1;
+    return sum + (y != 0);
 }
 
 /* A quote beyond 20 without volume is not used. */

@@ -78,11 +78,13 @@ fn figures() {
         assert_eq!(band(&sheet, PLAIN, year), plain);
         assert_eq!(band(&sheet, ADJUSTED, year), adjusted);
     }
-    // E(0) is U to U + 1, so that each step takes 1 from the low.
-    for year in 1..=20 {
-        let adjusted = (1_000_000_000 - year, 1_000_000_000);
-        assert_eq!(band(&with(0, zero_sheet(0)), ADJUSTED, year), adjusted);
+    // E(0) is U to U, so that no step changes a factor.
+    for year in 1..=150 {
+        let exact = (1_000_000_000, 1_000_000_000);
+        assert_eq!(band(&with(0, zero_sheet(0)), ADJUSTED, year), exact);
     }
+    let at_0 = posted(&with(0, flat(3_000, 3_000)));
+    assert_eq!(page(&at_0, ADJUSTED), page(&at_0, PLAIN));
     // E(10,000) is U + 10,000 to U + 10,007.
     let below = with(-1, zero_sheet(0));
     assert_eq!(band(&below, ADJUSTED, 1), (1_000_010_000, 1_000_010_007));
@@ -217,9 +219,13 @@ fn a_post_fails_as_a_whole() {
     let limited = |limit, sheet| Sheet { limit, ..sheet };
     for (sheet, adjustment, expected) in [
         (near_2_u(), -500, (8, 41)),
-        (limited(2_453, near_2_u()), -500, (8, 41)),
-        (limited(2_209, zero_sheet(0)), 0, (10, 149)),
-        (limited(2_228, zero_sheet(0)), 0, (10, 150)),
+        (limited(2_242, near_2_u()), -500, (8, 41)),
+        // The widest plain band is 636, in year 150, the widest adjusted one 672, in year 150.
+        (limited(636, flat(3_000, 0)), 100, (10, 142)),
+        (limited(671, flat(3_000, 0)), 100, (10, 150)),
+        // Plain bands are U to U, adjusted ones 7 wide in year 1 and 15 wide in year 2.
+        (limited(6, zero_sheet(0)), -1, (10, 1)),
+        (limited(7, zero_sheet(0)), -1, (10, 2)),
     ] {
         assert_eq!(answered(&posted(&sheet)), (0, 0));
         let refused = posted(&with(adjustment, sheet));
@@ -235,14 +241,15 @@ fn a_post_fails_as_a_whole() {
         answered(&posted(&with(-500, limited(1, near_2_u())))),
         (10, 11)
     );
-    assert_eq!(
-        answered(&posted(&with(0, limited(2_208, zero_sheet(0))))),
-        (10, 150)
-    );
-    assert_eq!(
-        answered(&posted(&with(0, limited(2_229, zero_sheet(0))))),
-        (0, 0)
-    );
+    for (limit, adjustment, expected) in [
+        (635, 100, (10, 150)),
+        (672, 100, (0, 0)),
+        (635, 0, (10, 150)),
+        (636, 0, (0, 0)),
+    ] {
+        let sheet = with(adjustment, limited(limit, flat(3_000, 0)));
+        assert_eq!(answered(&posted(&sheet)), expected);
+    }
 }
 
 // Beside the second implementation

@@ -90,17 +90,18 @@ fn figures() {
 
 #[test]
 fn figures_of_the_zero_sheet() {
+    // Every year is U to U: G(U) is 0 to 0, and E(0) is U to U.
     let journal = posted(&with(0, zero_sheet(0)));
-    for year in 1..=20 {
+    for year in 1..=150 {
         assert_eq!(sum(&journal, PLAIN, year), (year * U, year * U));
-        // Year t has lost t from its low: E(0) is U to U + 1.
-        let low = year * U - year * (year + 1) / 2;
-        assert_eq!(sum(&journal, ADJUSTED, year), (low, year * U));
+        assert_eq!(sum(&journal, ADJUSTED, year), (year * U, year * U));
     }
-    // G(U) is 0 to 1.
-    assert_eq!(sum(&journal, PLAIN, 22), (22 * U - 24, 22 * U + 25));
-    let all = sum(&journal, PLAIN, 150);
-    assert_eq!(all, (149_999_931_880, 150_000_076_505));
+    // With an ultimate forward rate of 1 year 21 is U - 492 to U - 482.
+    let rising = posted(&Sheet {
+        ufr: 1,
+        ..zero_sheet(0)
+    });
+    assert_eq!(sum(&rising, PLAIN, 21), (21 * U - 492, 21 * U - 482));
 }
 
 #[test]

@@ -214,15 +214,17 @@ fn an_old_curve_comes_back_closed() {
 
 #[test]
 fn what_is_refused_or_only_looks_does_not_change_the_depth() {
+    // Its adjusted curve alone fails, in year 142.
     let narrow = Sheet {
-        limit: 2_209,
+        rates: [3_000; 17],
+        limit: 636,
         ..zero_sheet(TOLD)
     };
     let refused = [
         post(&[]),
         posted(&flat_of(11)),
         posted(&flat_of(1)),
-        posted(&with(0, narrow)),
+        posted(&with(100, narrow)),
         turn(9),
         turn(2_400),
         look_up(0),

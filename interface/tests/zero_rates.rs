@@ -91,12 +91,16 @@ fn rates_worked_by_hand() {
         rates: [rate; 17],
         ..zero_sheet(0)
     };
-    for year in 1..=20 {
+    // U to U in every year, and growth at 0 is U.
+    for year in 1..=150 {
         assert_eq!(rates(&zero_sheet(0), year), (0, 0));
     }
-    for year in [21, 22, 150] {
-        assert_eq!(rates(&zero_sheet(0), year), (-1, 1));
-    }
+    // U - 492 to U - 482 in year 21, where a step of the rate is 210,000 of the factor.
+    let rising = Sheet {
+        ufr: 1,
+        ..zero_sheet(0)
+    };
+    assert_eq!(rates(&rising, 21), (0, 1));
     assert_eq!(rates(&flat(3_000), 1), (2_999, 3_001));
     assert_eq!(rates(&flat(3_000), 2), (2_999, 3_001));
     assert_eq!(rates(&flat(2_400), 1), (2_400, 2_400));

@@ -6,6 +6,7 @@ use crate::enclosure::{Enclosure, RATE_STEP};
 use crate::extrapolation::next_factor;
 use crate::forwards::YearForwards;
 use crate::refusal::Refusal;
+use crate::series::AtKnown;
 
 /// What a forward gains. Low and high are the same: an adjustment is exact.
 fn gain(adjustment: i16) -> Enclosure {
@@ -16,15 +17,21 @@ fn gain(adjustment: i16) -> Enclosure {
 /// The adjusted factors of year 1 on from the plain ones, or ground 8 in the first year that it
 /// applies to.
 pub fn adjusted_factors(plain: &[Enclosure], adjustment: i16) -> Result<Vec<Enclosure>, Refusal> {
-    let years = (1..).zip(plain);
-    years
-        .map(|(year, &factor)| checked_high(adjusted_factor(factor, year, adjustment), year))
-        .collect()
+    adjusted_factors_with(plain, adjustment, AtKnown::Nothing)
 }
 
-/// The plain factor taken once for each year through the step of extrapolated years.
-fn adjusted_factor(plain: Enclosure, year: usize, adjustment: i16) -> Enclosure {
-    (0..year).fold(plain, |factor, _| next_factor(factor, gain(adjustment)))
+/// The same under either rule for known values: at an adjustment of 0 growth is known.
+pub fn adjusted_factors_with(
+    plain: &[Enclosure],
+    adjustment: i16,
+    at_known: AtKnown,
+) -> Result<Vec<Enclosure>, Refusal> {
+    // Each plain factor is taken once for each year through the step of extrapolated years.
+    let next = |factor, _| next_factor(factor, gain(adjustment), at_known);
+    let years = (1..).zip(plain);
+    years
+        .map(|(year, &plain)| checked_high((0..year).fold(plain, next), year))
+        .collect()
 }
 
 /// The forwards from which the adjusted curve's LLFR comes.

@@ -4,7 +4,7 @@ use crate::enclosure::{div_down, div_up, Enclosure, RATE_UNIT, U};
 use crate::extrapolation::FIRST_SMOOTHING_POINT;
 use crate::forwards::{YearForwards, FIRST_FORWARD_YEAR};
 use crate::refusal::Refusal;
-use crate::series::neg_log;
+use crate::series::AtKnown;
 use crate::sheet::{Sheet, MATURITIES, QUOTE_20};
 
 /// Value of a swap's fixed leg at par.
@@ -71,6 +71,11 @@ struct Trial {
 
 /// The discount factors and forwards of the sheet, or the first of grounds 7 to 9.
 pub fn bootstrap(sheet: &Sheet) -> Result<Bootstrap, Refusal> {
+    bootstrap_with(sheet, AtKnown::Nothing)
+}
+
+/// The same under either rule for known values, which only the forwards go by.
+pub fn bootstrap_with(sheet: &Sheet, at_known: AtKnown) -> Result<Bootstrap, Refusal> {
     let mut years = Years {
         factors: Vec::new(),
         annuity: Enclosure::ZERO,
@@ -81,7 +86,7 @@ pub fn bootstrap(sheet: &Sheet) -> Result<Bootstrap, Refusal> {
         if gap_years > 1 {
             let yearly = years.fill_gap(gap_years, rate)?;
             if maturity >= FIRST_FORWARD_YEAR {
-                forwards.push_gap(gap_years, forward(yearly));
+                forwards.push_gap(gap_years, forward(yearly, at_known));
             }
         }
         years.push(par_factor(rate, years.annuity))?;
@@ -148,8 +153,9 @@ pub fn par_factor(rate: i128, annuity: Enclosure) -> Enclosure {
 }
 
 /// A gap's forward; the logarithm falls as the yearly factor rises.
-fn forward(yearly: Enclosure) -> Enclosure {
-    Enclosure::new(neg_log(yearly.high).low, neg_log(yearly.low).high)
+fn forward(yearly: Enclosure, at_known: AtKnown) -> Enclosure {
+    let [low, high] = [yearly.high, yearly.low].map(|x| at_known.neg_log(x));
+    Enclosure::new(low.low, high.high)
 }
 
 impl Gap {

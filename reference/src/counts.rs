@@ -6,6 +6,7 @@ use crate::adjusted::AdjustedPosts;
 use crate::book::{Book, LARGEST_AGE_LIMIT};
 use crate::dropped::DroppedPosts;
 use crate::journal::{calls, make};
+use crate::known::KnownPosts;
 
 /// How often something was posted, and how often it was accepted.
 #[derive(Clone, Copy, Debug, Default, PartialEq, Eq)]
@@ -32,6 +33,7 @@ impl fmt::Display for Tally {
 pub struct PostCounts {
     pub dropped: DroppedPosts,
     pub adjusted: AdjustedPosts,
+    pub known: KnownPosts,
 }
 
 impl PostCounts {
@@ -39,6 +41,7 @@ impl PostCounts {
     pub fn count(&mut self, sheet: &[u8], number: u8) {
         self.dropped.count(sheet, number == 0);
         self.adjusted.count(sheet, number);
+        self.known.count(sheet, number == 0);
     }
 
     /// Counts the posts of a journal, each after what comes before it.
@@ -50,13 +53,15 @@ impl PostCounts {
 
     /// Says what was not met even once.
     pub fn check(&self) -> Result<(), String> {
-        self.dropped.check().and_then(|()| self.adjusted.check())
+        self.dropped.check()?;
+        self.adjusted.check()?;
+        self.known.check()
     }
 }
 
 impl fmt::Display for PostCounts {
     fn fmt(&self, f: &mut fmt::Formatter<'_>) -> fmt::Result {
-        write!(f, "{}\n{}", self.dropped, self.adjusted)
+        write!(f, "{}\n{}\n{}", self.dropped, self.adjusted, self.known)
     }
 }
 

@@ -1,12 +1,13 @@
 //! The curves of a sheet, each of 150 discount factors: the plain curve and, where the sheet has
 //! an adjustment, the adjusted curve; with grounds 7 to 10.
 
-use crate::adjustment::{adjusted_factors, adjusted_forwards};
-use crate::bootstrap::{bootstrap, Bootstrap};
+use crate::adjustment::{adjusted_factors_with, adjusted_forwards};
+use crate::bootstrap::{bootstrap_with, Bootstrap};
 use crate::enclosure::Enclosure;
 use crate::extrapolation::{extrapolate, FIRST_SMOOTHING_POINT};
 use crate::forwards::YearForwards;
 use crate::refusal::Refusal;
+use crate::series::AtKnown;
 use crate::sheet::Sheet;
 
 /// Years on a curve.
@@ -42,11 +43,16 @@ impl Curves {
     /// The sheet's curves, or the first of grounds 7 to 10 that applies: on the plain curve, then
     /// 8 and 10 on the adjusted one.
     pub fn of(sheet: &Sheet) -> Result<Curves, Refusal> {
-        let quoted = bootstrap(sheet)?;
+        Curves::with(sheet, AtKnown::Nothing)
+    }
+
+    /// The same under either rule for known values.
+    pub fn with(sheet: &Sheet, at_known: AtKnown) -> Result<Curves, Refusal> {
+        let quoted = bootstrap_with(sheet, at_known)?;
         Ok(Curves {
-            plain: Curve::of_quotes(sheet, &quoted)?,
+            plain: Curve::of_quotes(sheet, &quoted, at_known)?,
             adjusted: match sheet.adjustment {
-                Some(adjustment) => Some(Curve::adjusted(sheet, &quoted, adjustment)?),
+                Some(adjustment) => Some(Curve::adjusted(sheet, &quoted, adjustment, at_known)?),
                 None => None,
             },
         })
@@ -71,19 +77,25 @@ pub struct Curve {
 impl Curve {
     /// The sheet's plain curve, or the first of grounds 7 to 10 that applies to it.
     pub fn plain(sheet: &Sheet) -> Result<Curve, Refusal> {
-        Curve::of_quotes(sheet, &bootstrap(sheet)?)
+        let at_known = AtKnown::Nothing;
+        Curve::of_quotes(sheet, &bootstrap_with(sheet, at_known)?, at_known)
     }
 
     /// The plain curve, or ground 8 past year 20, or ground 10.
-    fn of_quotes(sheet: &Sheet, quoted: &Bootstrap) -> Result<Curve, Refusal> {
-        Curve::going_on(sheet, quoted.liquid(), &quoted.forwards)
+    fn of_quotes(sheet: &Sheet, quoted: &Bootstrap, at_known: AtKnown) -> Result<Curve, Refusal> {
+        Curve::going_on(sheet, quoted.liquid(), &quoted.forwards, at_known)
     }
 
     /// The adjusted curve, or ground 8 in any year, or ground 10.
-    fn adjusted(sheet: &Sheet, quoted: &Bootstrap, adjustment: i16) -> Result<Curve, Refusal> {
-        let liquid = adjusted_factors(quoted.liquid(), adjustment)?;
+    fn adjusted(
+        sheet: &Sheet,
+        quoted: &Bootstrap,
+        adjustment: i16,
+        at_known: AtKnown,
+    ) -> Result<Curve, Refusal> {
+        let liquid = adjusted_factors_with(quoted.liquid(), adjustment, at_known)?;
         let forwards = adjusted_forwards(&quoted.forwards, adjustment);
-        Curve::going_on(sheet, &liquid, &forwards)
+        Curve::going_on(sheet, &liquid, &forwards, at_known)
     }
 
     /// The curve that goes on from its years to 20, or ground 8 past them, or ground 10.
@@ -91,8 +103,10 @@ impl Curve {
         sheet: &Sheet,
         liquid: &[Enclosure],
         forwards: &YearForwards,
+        at_known: AtKnown,
     ) -> Result<Curve, Refusal> {
-        let extrapolated = extrapolate(sheet, liquid[FIRST_SMOOTHING_POINT - 1], forwards)?;
+        let factor_20 = liquid[FIRST_SMOOTHING_POINT - 1];
+        let extrapolated = extrapolate(sheet, factor_20, forwards, at_known)?;
         let curve = Curve::collect(liquid.iter().chain(&extrapolated));
         curve.check_widths(i128::from(sheet.limit))?;
         Ok(curve)

@@ -51,14 +51,19 @@ pub fn base_records() -> Vec<Answered> {
         (posted(fall()), 7, 10),
         (posted(flat(-2_000)), 8, 35),
         (posted(with_rate(flat(3_000), 12, 12_000)), 9, 12),
-        (posted(limited(2_208)), 10, 150),
+        // The widest band of flat 3% is 636, in year 150.
+        (posted(flat_within(635)), 10, 150),
         (look_up(150), 14, 0),
         (turn(2_400), 11, 0),
         (posted(with_x(20_000)), 0, 0),
+        (posted(flat_within(636)), 0, 0),
+        // Every year of the zero sheet is U to U.
+        (posted(zero_within(1)), 0, 0),
+        (look_up(150), 0, 0),
         (turn(2), 0, 0),
         (turn(1), 12, 0),
         (posted(zero_sheet(1)), 0, 0),
-        (posted(limited(2_209)), 6, 0),
+        (posted(zero_within(1)), 6, 0),
         (posted(with_x(20_000)), 6, 0),
         (look_up(0), 13, 0),
         (look_up(151), 13, 0),
@@ -102,7 +107,7 @@ fn rate_records() -> Vec<Answered> {
         (look_up(9), 0, 0),
         // Other calls go on as ever, and another curve has rates again.
         (turn(1), 12, 0),
-        (posted(limited(2_209)), 6, 0),
+        (posted(zero_within(1)), 6, 0),
         (posted(steep(10_000)), 0, 0),
         (turn(2), 0, 0),
         (look_up(150), 17, 0),
@@ -212,14 +217,18 @@ fn adjusted_sheet_records() -> Vec<Answered> {
     ]
 }
 
-/// Grounds 8 and 10 on either curve. The zero sheet's widest band is 2,209, in year 150, and each
-/// year past 20 has one about 17 wider than the year before. An adjustment of 0 takes 1 from the
-/// low at each of its steps, 20 in year 20, so that every later band is 20 wider.
+/// Grounds 8 and 10 on either curve. The widest band of flat 3% is 636, in year 150. The steps of an
+/// adjustment of 100 widen the bands: then it is 672, in year 150, and year 142 is the first above
+/// 636. Those of 0 round nothing, so that the adjusted curve is the plain one.
 fn adjusted_curve_records() -> Vec<Answered> {
     let posted = |sheet: Sheet| post(&sheet_bytes(&sheet));
-    let at_0 = |limit| {
-        let sheet = adjusted(zero_sheet(1), 0);
-        posted(Sheet { limit, ..sheet })
+    let within = |limit, adjustment| {
+        let sheet = with_volumes(flat_within(limit), [1; 5]);
+        posted(adjusted(sheet, adjustment))
+    };
+    let exact = Sheet {
+        limit: 1,
+        ..adjusted(zero_sheet(1), 0)
     };
     let near_2_u = |adjustment| adjusted(rising_beyond_20(), adjustment);
     let narrow = Sheet {
@@ -227,10 +236,14 @@ fn adjusted_curve_records() -> Vec<Answered> {
         ..near_2_u(-500)
     };
     vec![
-        (at_0(2_208), 10, 150),
-        (at_0(2_209), 10, 149),
-        (at_0(2_228), 10, 150),
-        (at_0(2_229), 0, 0),
+        (within(635, 100), 10, 150),
+        (within(636, 100), 10, 142),
+        (within(671, 100), 10, 150),
+        (within(672, 100), 0, 0),
+        (within(635, 0), 10, 150),
+        (within(636, 0), 0, 0),
+        (posted(exact), 0, 0),
+        (look_up(150), 0, 0),
         // Year 20 is 0.981^-20 U, about 1.4676 U, the forward of 15-20 about -0.01918. With -500
         // that is 1.4676 U × e^0.1, and 21 years on × e^(0.02418 × 10 × (1 - e^-2.1)): 2.0054 U.
         (posted(rising_beyond_20()), 0, 0),
@@ -257,7 +270,7 @@ fn aging_records() -> Vec<Answered> {
         (look_up(0), 13, 0),
         (look_up(151), 13, 0),
         // The book still holds that curve. Neither refused calls nor a sheet as old open it.
-        (posted(limited(2_209)), 6, 0),
+        (posted(zero_within(1)), 6, 0),
         (turn(4), 12, 0),
         (look_up(150), 16, 0),
         (posted(zero_sheet(1)), 0, 0),
@@ -330,10 +343,17 @@ fn withdrawal_records() -> Vec<Answered> {
     ]
 }
 
-fn limited(limit: u32) -> Sheet {
+fn zero_within(limit: u32) -> Sheet {
     Sheet {
         limit,
         ..zero_sheet(0)
+    }
+}
+
+fn flat_within(limit: u32) -> Sheet {
+    Sheet {
+        limit,
+        ..flat(3_000)
     }
 }
 

@@ -6,25 +6,27 @@ use crate::bootstrap::checked_high;
 use crate::enclosure::{div_down, div_up, Enclosure, Round, RATE_STEP, U};
 use crate::forwards::YearForwards;
 use crate::refusal::Refusal;
-use crate::series::{growth, neg_log};
+use crate::series::AtKnown;
 use crate::sheet::Sheet;
 use crate::weights::weights;
 
 /// The last year whose factor comes from the quotes.
 pub const FIRST_SMOOTHING_POINT: usize = 20;
 
-/// Years 21 to 150 from the factor of year 20, or ground 8.
+/// Years 21 to 150 from the factor of year 20, or ground 8, under a rule for known values.
 pub fn extrapolate(
     sheet: &Sheet,
     factor_20: Enclosure,
     forwards: &YearForwards,
+    at_known: AtKnown,
 ) -> Result<Vec<Enclosure>, Refusal> {
-    let ultimate = log_ultimate(sheet.ufr);
+    let ultimate = log_ultimate_with(sheet.ufr, at_known);
     let last_liquid = last_liquid_forward(&sheet.volumes, forwards);
     let mut factor = factor_20;
     let mut factors = Vec::new();
     for (i, weight) in weights(sheet.convergence()).into_iter().enumerate() {
-        factor = next_factor(factor, year_forward(ultimate, last_liquid, weight));
+        let forward = year_forward(ultimate, last_liquid, weight);
+        factor = next_factor(factor, forward, at_known);
         factors.push(checked_high(factor, FIRST_SMOOTHING_POINT + 1 + i)?);
     }
     Ok(factors)
@@ -32,7 +34,11 @@ pub fn extrapolate(
 
 /// L, the enclosure of ln(1 + UFR).
 pub fn log_ultimate(ufr: u16) -> Enclosure {
-    neg_log(U + RATE_STEP * i128::from(ufr)).negated()
+    log_ultimate_with(ufr, AtKnown::Nothing)
+}
+
+fn log_ultimate_with(ufr: u16, at_known: AtKnown) -> Enclosure {
+    at_known.neg_log(U + RATE_STEP * i128::from(ufr)).negated()
 }
 
 /// The years over whose forwards each volume's mean is taken: from 15 to maturity 20, from 20
@@ -73,7 +79,8 @@ fn year_forward(ultimate: Enclosure, last_liquid: Enclosure, weight: Enclosure) 
 }
 
 /// The year's factor: the factor of the year before times e to minus the forward.
-pub fn next_factor(before: Enclosure, forward: Enclosure) -> Enclosure {
+pub fn next_factor(before: Enclosure, forward: Enclosure, at_known: AtKnown) -> Enclosure {
+    let growth = |y| at_known.growth(y);
     let low = if forward.high >= 0 {
         div_down(before.low * U, growth(forward.high).high)
     } else {

@@ -20,6 +20,7 @@ pub mod extrapolation;
 pub mod forwards;
 pub mod interval;
 pub mod journal;
+pub mod known;
 pub mod page;
 pub mod questions;
 pub mod rates;

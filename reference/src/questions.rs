@@ -6,6 +6,7 @@ use crate::book::{Book, LARGEST_AGE_LIMIT};
 use crate::curve::Which;
 use crate::dropped::typed_dropped_sheet;
 use crate::journal::{look_up, post, turn, withdrawal};
+use crate::known::known_sheet;
 use crate::streams::{sheet, sheet_bytes, steep_sheet, typed_sheet, Random};
 use crate::sums::{kind_of, Wanted};
 use crate::withdrawn::{taken_back, withdrawals};
@@ -67,12 +68,13 @@ fn later(random: &mut Random, told: u16) -> u16 {
     }
 }
 
-/// The record of a post; one in 3 is of a sheet with dropped quotes, and as many are of sheets
-/// with an adjustment.
+/// The record of a post; three in 10 are of sheets with dropped quotes, as many of sheets with an
+/// adjustment, and one is of a sheet that meets a known argument.
 pub fn posted(random: &mut Random, month: u16) -> Vec<u8> {
-    post(&match random.below(3) {
-        0 => typed_dropped_sheet(random, month),
-        1 => typed_adjusted_sheet(random, month),
+    post(&match random.below(10) {
+        0..=2 => typed_dropped_sheet(random, month),
+        3..=5 => typed_adjusted_sheet(random, month),
+        6 => sheet_bytes(&known_sheet(random, month)),
         _ => typed_sheet(random, month),
     })
 }

@@ -8,14 +8,52 @@ const LATER_ODD_NUMBERS: [i128; 4] = [3, 5, 7, 9];
 /// The growth series ends with this term.
 const LAST_GROWTH_TERM: i128 = 7;
 
+/// What is added to the high where the value is known: of G at U, which is 0, and of E at 0, which
+/// is U. At every other argument it is 1.
+#[derive(Clone, Copy, Debug, PartialEq, Eq)]
+pub enum AtKnown {
+    /// The rule: no term is rounded there and none is left out.
+    Nothing,
+    /// The earlier rule, to compare with.
+    One,
+}
+
+impl AtKnown {
+    /// What is added to the high at an argument whose value is known or not.
+    fn slack(self, known: bool) -> i128 {
+        match (self, known) {
+            (AtKnown::Nothing, true) => 0,
+            _ => 1,
+        }
+    }
+
+    /// G(x) under this rule.
+    pub fn neg_log(self, x: i128) -> Enclosure {
+        let slack = self.slack(x == U);
+        let size = Enclosure::new(log_sum(x, div_down), log_sum(x, div_up) + slack);
+        if x > U {
+            size.negated()
+        } else {
+            size
+        }
+    }
+
+    /// E(y) under this rule.
+    pub fn growth(self, y: i128) -> Enclosure {
+        assert!(y >= 0);
+        let slack = self.slack(y == 0);
+        Enclosure::new(growth_sum(y, div_down), growth_sum(y, div_up) + slack)
+    }
+}
+
 /// G(x), the enclosure of -ln(x / U) for `x` above 0.
 pub fn neg_log(x: i128) -> Enclosure {
-    let size = Enclosure::new(log_sum(x, div_down), log_sum(x, div_up) + 1);
-    if x > U {
-        size.negated()
-    } else {
-        size
-    }
+    AtKnown::Nothing.neg_log(x)
+}
+
+/// E(y), the enclosure of U × e^(y / U) for `y` from 0 up.
+pub fn growth(y: i128) -> Enclosure {
+    AtKnown::Nothing.growth(y)
 }
 
 /// 2 × (p1/1 + p2/3 + .. + p5/9) with every step and quotient under one rounding.
@@ -30,12 +68,6 @@ fn log_sum(x: i128, round: Round) -> i128 {
         sum += round(power, odd);
     }
     2 * sum
-}
-
-/// E(y), the enclosure of U × e^(y / U) for `y` from 0 up.
-pub fn growth(y: i128) -> Enclosure {
-    assert!(y >= 0);
-    Enclosure::new(growth_sum(y, div_down), growth_sum(y, div_up) + 1)
 }
 
 /// t0 + .. + t7 with every step under one rounding.

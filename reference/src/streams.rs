@@ -8,6 +8,7 @@ use crate::curve::{Curve, Curves, YEARS};
 use crate::dropped::typed_dropped_sheet;
 use crate::enclosure::{Enclosure, RATE_UNIT, U};
 use crate::journal::{look_up, post, turn, withdrawal};
+use crate::known::known_sheet;
 use crate::sheet::{Sheet, MATURITIES, VOLUME_MATURITIES};
 
 pub(crate) const LARGEST_LIMIT: u32 = 100_000;
@@ -438,6 +439,16 @@ fn adjusted_records(random: &mut Random, told: u16) -> Vec<u8> {
     records
 }
 
+/// The post of a sheet that meets a known argument and look-ups of it: next to year 20, where what
+/// it meets starts to show, in the last years, and anywhere.
+fn known_records(random: &mut Random, told: u16) -> Vec<u8> {
+    let mut records = post(&sheet_bytes(&known_sheet(random, told)));
+    for (first, last) in [(20, 22), (140, 150), (1, 150)] {
+        records.extend(look_up(random.between(first, last) as u8));
+    }
+    records
+}
+
 /// A stream of `count` whole records.
 pub fn records(random: &mut Random, count: usize) -> Vec<u8> {
     let mut told = 0;
@@ -449,25 +460,34 @@ pub fn records(random: &mut Random, count: usize) -> Vec<u8> {
 }
 
 /// A stream of `count` records, and a few of a steep sheet after one in 60 of them, of a sheet
-/// with dropped quotes after one in 8 and of one with an adjustment after one in 5, so that the
-/// other grounds are met as often as without; sometimes cut, with any byte in one place (a wrong length shifts all that follows),
-/// or ended by any kind.
-pub fn stream(seed: u64, count: usize) -> Vec<u8> {
-    let mut random = Random::new(seed);
+/// with dropped quotes after one in 8, of one with an adjustment after one in 5 and of one that
+/// meets a known argument after one in 10, so that the other grounds are met as often as without.
+pub fn whole_stream(random: &mut Random, count: usize) -> Vec<u8> {
     let mut told = 0;
     let mut stream = Vec::new();
     for _ in 0..count {
-        stream.extend(record(&mut random, &mut told));
+        stream.extend(record(random, &mut told));
         if random.one_in(60) {
-            stream.extend(steep_records(&mut random, told));
+            stream.extend(steep_records(random, told));
         }
         if random.one_in(8) {
-            stream.extend(dropped_records(&mut random, told));
+            stream.extend(dropped_records(random, told));
         }
         if random.one_in(5) {
-            stream.extend(adjusted_records(&mut random, told));
+            stream.extend(adjusted_records(random, told));
+        }
+        if random.one_in(10) {
+            stream.extend(known_records(random, told));
         }
     }
+    stream
+}
+
+/// A whole stream, sometimes cut, with any byte in one place (a wrong length shifts all that
+/// follows), or ended by any kind.
+pub fn stream(seed: u64, count: usize) -> Vec<u8> {
+    let mut random = Random::new(seed);
+    let mut stream = whole_stream(&mut random, count);
     let at = random.below(stream.len() as u64 + 1) as usize;
     match random.below(8) {
         0 => stream.truncate(at),

@@ -194,18 +194,23 @@ fn figures_by_hand() {
 }
 
 #[test]
-fn an_adjustment_of_0_is_a_curve_of_its_own() {
-    // E(0) is U to U + 1, so that each step takes 1 from the low.
-    let both = curves(&zero().adjusted(0));
-    for year in 1..=20 {
-        has_factor(&both.plain, year, U, U);
-        let curve = both.adjusted.as_ref().unwrap();
-        has_factor(curve, year, U - year as i128, U);
+fn an_adjustment_of_0_is_the_plain_curve_once_more() {
+    // E(0) is U to U, so that no step changes a factor, and no forward gains.
+    for numbers in [
+        zero(),
+        flat(3_000),
+        november(),
+        november().with_x(20_000),
+        near_the_largest_high(),
+    ] {
+        let both = curves(&numbers.clone().adjusted(0));
+        assert_eq!(both.adjusted, Some(both.plain));
+        // None is not the same as 0.
+        assert_eq!(curves(&numbers).adjusted, None);
     }
-    assert_eq!(curves(&zero()).adjusted, None);
-    let adjusted = both.adjusted.unwrap();
-    has_factor(&both.plain, 150, 999_998_960, 1_000_001_169);
-    has_factor(&adjusted, 150, 999_998_940, 1_000_001_169);
+    for year in 1..=150 {
+        has_factor(&adjusted(&zero().adjusted(0)), year, U, U);
+    }
 }
 
 #[test]
@@ -216,7 +221,8 @@ fn the_plain_curve_is_not_moved() {
         for adjustment in ADJUSTMENTS {
             let both = curves(&numbers.clone().adjusted(adjustment));
             assert_eq!(both.plain, expected.plain);
-            assert_ne!(both.adjusted, Some(both.plain), "{adjustment}");
+            let the_same = both.adjusted == Some(both.plain);
+            assert_eq!(the_same, adjustment == 0, "{adjustment}");
         }
     }
 }
@@ -356,18 +362,36 @@ fn ground_8_on_adjusted_years_to_20() {
 
 #[test]
 fn ground_10_on_the_adjusted_curve() {
+    let limited = |limit| Numbers {
+        limit,
+        ..flat(3_000)
+    };
+    let adjusted = |limit, adjustment| refusal(&limited(limit).adjusted(adjustment).bytes());
+    assert_eq!(refusal(&limited(635).bytes()), Some((10, 150)));
+    assert_eq!(adjusted(635, 100), Some((10, 150)));
+    // The plain curve is within its limit, of the adjusted one year 142 is the first not to be.
+    assert_eq!(refusal(&limited(636).bytes()), None);
+    assert_eq!(adjusted(636, 100), Some((10, 142)));
+    assert_eq!(adjusted(671, 100), Some((10, 150)));
+    assert_eq!(adjusted(672, 100), None);
+    // Smaller factors have narrower bands: that of year 150 is 635. At 0 the curves are the same.
+    assert_eq!(adjusted(636, 500), None);
+    assert_eq!(adjusted(636, 0), None);
+}
+
+#[test]
+fn ground_10_on_adjusted_years_to_20() {
+    // The plain curve is U to U. Year 1 is U + 10,000 to U + 10,007 at -1, and year 2 is U + 20,000
+    // to U + 20,015; at 1 the bands are one wider for the rounding of both ends.
     let limited = |limit| Numbers { limit, ..zero() };
-    let adjusted = |limit| refusal(&limited(limit).adjusted(0).bytes());
-    assert_eq!(adjusted(2_208), Some((10, 150)));
-    // The plain curve is within its limit, of the adjusted one year 149 is the first not to be.
-    assert_eq!(refusal(&limited(2_209).bytes()), None);
-    assert_eq!(adjusted(2_209), Some((10, 149)));
-    assert_eq!(adjusted(2_228), Some((10, 150)));
-    assert_eq!(adjusted(2_229), None);
-    for adjustment in [-500, -1, 1, 500] {
-        assert_eq!(refusal(&limited(2_209).adjusted(adjustment).bytes()), None);
+    let adjusted = |limit, adjustment| refusal(&limited(limit).adjusted(adjustment).bytes());
+    for (adjustment, width) in [(-1, 7), (1, 8)] {
+        assert_eq!(adjusted(1, adjustment), Some((10, 1)));
+        assert_eq!(adjusted(width - 1, adjustment), Some((10, 1)));
+        assert_eq!(adjusted(width, adjustment), Some((10, 2)));
     }
-    // In a year to 20: each step takes 1 from the low, and plain bands are all at most 51.
+    assert_eq!(adjusted(1, 0), None);
+    // Here each step adds about 8 to a band, which makes 55 in year 7. Plain ones are at most 51.
     let steep = {
         let mut rates = [11_595; 17];
         rates[..9].copy_from_slice(&[896, 900, 891, 860, 899, 860, 870, 865, 900]);
@@ -385,29 +409,29 @@ fn ground_10_on_the_adjusted_curve() {
 
 #[test]
 fn the_plain_curve_is_tried_first_and_8_before_10() {
-    // Its widest plain band is 2,453, in year 150; the adjusted curve passes 2 U in year 41.
+    // Its widest plain band is 2,242, in year 150; the adjusted curve passes 2 U in year 41.
     let limited = |limit| Numbers {
         limit,
         ..near_the_largest_high()
     };
-    for (limit, plain) in [(1, (10, 11)), (100, (10, 24)), (2_452, (10, 150))] {
+    for (limit, plain) in [(1, (10, 11)), (100, (10, 24)), (2_241, (10, 150))] {
         assert_eq!(refusal(&limited(limit).bytes()), Some(plain));
         assert_eq!(refusal(&limited(limit).adjusted(-500).bytes()), Some(plain));
     }
-    assert_eq!(refusal(&limited(2_453).bytes()), None);
+    assert_eq!(refusal(&limited(2_242).bytes()), None);
     assert_eq!(
-        refusal(&limited(2_453).adjusted(-500).bytes()),
+        refusal(&limited(2_242).adjusted(-500).bytes()),
         Some((8, 41))
     );
-    // Of this adjusted curve bands pass the limit from year 122 on, and year 136 passes 2 U.
-    let mut numbers = limited(2_458);
+    // Of this adjusted curve bands pass the limit from year 120 on, and year 137 passes 2 U.
+    let mut numbers = limited(2_253);
     numbers.rates[..13].fill(-1_911);
     assert_eq!(refusal(&numbers.bytes()), None);
     assert_eq!(
         refusal(&numbers.clone().adjusted(-380).bytes()),
-        Some((10, 122))
+        Some((10, 120))
     );
-    assert_eq!(refusal(&numbers.adjusted(-381).bytes()), Some((8, 136)));
+    assert_eq!(refusal(&numbers.adjusted(-381).bytes()), Some((8, 137)));
 }
 
 #[test]
@@ -436,10 +460,11 @@ fn an_adjusted_low_may_be_0() {
         volumes: [1, 0, 0, 0, 0],
         ..zero()
     };
-    for (adjustment, high) in [(0, 18), (500, 18)] {
+    // Each step of an adjustment above 0 takes 1 from so small a low; one of 0 takes nothing.
+    for (adjustment, low) in [(0, 9), (1, 0), (500, 0)] {
         let both = curves(&numbers.clone().adjusted(adjustment));
         has_factor(&both.plain, 20, 9, 18);
-        has_factor(&both.adjusted.unwrap(), 20, 0, high);
+        has_factor(&both.adjusted.unwrap(), 20, low, 18);
     }
 }
 
@@ -486,12 +511,12 @@ fn both_curves_follow_the_last_accepted_sheet() {
     let before = book.clone();
     assert_eq!(book.post(&refused.bytes()), Err(Refusal::at(8, 41)));
     let narrow = Numbers {
-        limit: 2_209,
-        ..zero()
+        limit: 636,
+        ..flat(3_000)
     };
     assert_eq!(
-        book.post(&narrow.adjusted(0).bytes()),
-        Err(Refusal::at(10, 149))
+        book.post(&narrow.adjusted(100).bytes()),
+        Err(Refusal::at(10, 142))
     );
     assert_eq!(book, before);
     for (numbers, has_adjusted) in [

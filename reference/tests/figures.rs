@@ -54,8 +54,9 @@ fn first_years_by_par() {
 
 #[test]
 fn logarithm_and_growth() {
-    assert_eq!(neg_log(U), Enclosure::new(0, 1));
-    assert_eq!(growth(0), Enclosure::new(U, U + 1));
+    // Known, so that nothing is added to the high.
+    assert_eq!(neg_log(U), Enclosure::new(0, 0));
+    assert_eq!(growth(0), Enclosure::new(U, U));
     assert_eq!(growth(1).high, U + 8);
 }
 
@@ -65,34 +66,38 @@ fn logarithm_above_one_is_the_negated_pair() {
     let pair = neg_log(1_030_000_000);
     assert!(pair.low <= -29_558_803 && -29_558_802 <= pair.high);
     assert_eq!(log_ultimate(3_000), Enclosure::new(-pair.high, -pair.low));
-    assert_eq!(log_ultimate(0), Enclosure::new(-1, 0));
+    assert_eq!(log_ultimate(0), Enclosure::new(0, 0));
 }
 
 #[test]
 fn zero_sheet() {
-    for year in 1..=20 {
+    for year in 1..=150 {
         assert_eq!(factor(&zero(), year), (U, U));
     }
-    assert_eq!(factor(&zero(), 21), (999_999_992, 1_000_000_008));
-    assert_eq!(factor(&zero(), 22), (999_999_984, 1_000_000_017));
-    assert_eq!(factor(&zero(), 150), (999_998_960, 1_000_001_169));
 }
 
 #[test]
-fn zero_sheet_at_its_limit() {
-    assert!(curve(&Numbers {
-        limit: 2_209,
-        ..zero()
-    })
-    .is_ok());
-    refused(
-        &Numbers {
-            limit: 2_208,
-            ..zero()
-        },
-        10,
-        150,
-    );
+fn flat_sheet() {
+    // The ultimate forward rate of 0 is known: with an L of -1 to 0 year 150 had the high
+    // 411,987,233.
+    assert_eq!(factor(&flat(3_000), 21), (538_318_448, 538_318_465));
+    assert_eq!(factor(&flat(3_000), 150), (411_986_547, 411_987_183));
+}
+
+#[test]
+fn zero_sheet_at_the_least_limit() {
+    assert!(curve(&Numbers { limit: 1, ..zero() }).is_ok());
+}
+
+#[test]
+fn flat_sheet_at_its_limit() {
+    // Year 150 is the widest: 411,987,183 less 411,986,547.
+    let limited = |limit| Numbers {
+        limit,
+        ..flat(3_000)
+    };
+    assert!(curve(&limited(636)).is_ok());
+    refused(&limited(635), 10, 150);
 }
 
 #[test]
@@ -134,7 +139,16 @@ fn ground_8_on_extrapolated_years_comes_after_the_quotes_and_before_ground_10() 
 
 #[test]
 fn ground_10_names_the_first_year() {
-    refused(&Numbers { limit: 1, ..zero() }, 10, 21);
+    // ln 1.00001 is within 9,998 to 10,009, and 48,374,180 billionths of that within 483 to 485:
+    // from U, year 21 is U - 492 to U - 482.
+    let rising = |limit| Numbers {
+        ufr: 1,
+        limit,
+        ..zero()
+    };
+    assert_eq!(factor(&rising(100_000), 21), (U - 492, U - 482));
+    refused(&rising(9), 10, 21);
+    refused(&rising(10), 10, 22);
     refused(
         &Numbers {
             limit: 5,
@@ -402,8 +416,8 @@ fn refused_calls_change_nothing() {
         (flat(-2_000).bytes(), refusal(8, 35)),
         (
             Numbers {
-                limit: 2_208,
-                ..zero()
+                limit: 635,
+                ..flat(3_000)
             }
             .bytes(),
             refusal(10, 150),

@@ -206,14 +206,16 @@ fn a_factor_of_ten_percent_is_the_curve_without_the_record() {
 
 #[test]
 fn grounds_8_and_10_are_tried_on_the_worked_weights() {
-    let limit = curve(&zero().with_x(20_000)).factor(150).width();
-    let limited = |limit: i128| {
-        let limit = u32::try_from(limit).unwrap();
-        let numbers = Numbers { limit, ..zero() }.with_x(20_000);
-        Curve::plain(&read(&numbers)).err()
+    // Year 150 is the widest: 640,244,924 to 640,246,623, and 647,775,926 to 647,777,646 without X.
+    let limited = |limit| Numbers {
+        limit,
+        ..november()
     };
-    assert_eq!(limited(limit), None);
-    assert_eq!(limited(limit - 1), Some(Refusal::at(10, 150)));
+    let with_x = |limit| Curve::plain(&read(&limited(limit).with_x(20_000))).err();
+    assert_eq!(with_x(1_699), None);
+    assert_eq!(with_x(1_698), Some(Refusal::at(10, 150)));
+    let refused = Curve::plain(&read(&limited(1_699))).unwrap_err();
+    assert_eq!(refused.number, 10);
     // A 15-20 forward far below 0 loses its weight sooner, so 2 U is passed later or never.
     let mut falling = Numbers {
         volumes: [1, 0, 0, 0, 0],

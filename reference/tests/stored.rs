@@ -8,12 +8,13 @@ use reference::counts::PostCounts;
 use reference::desk::run_desk;
 
 /// The streams that `vectors` writes, with its arguments.
-const WRITTEN: [(&str, &[&str]); 5] = [
+const WRITTEN: [(&str, &[&str]); 6] = [
     ("phase_in", &[]),
     ("zero_rates", &["zero_rates"]),
     ("dropped", &["dropped"]),
     ("adjustment", &["adjustment"]),
     ("withdrawal", &["withdrawal"]),
+    ("slack", &["slack"]),
 ];
 
 fn stored(name: &str) -> Vec<u8> {
@@ -57,4 +58,12 @@ fn the_stream_of_adjustments_meets_every_tail_and_every_refusal_of_one() {
     counts.count_journal(&stored("adjustment.stdin"));
     println!("{}", counts.adjusted);
     counts.adjusted.check().unwrap();
+}
+
+#[test]
+fn the_stream_of_slack_meets_all_that_slack_would_change() {
+    let mut counts = PostCounts::default();
+    counts.count_journal(&stored("slack.stdin"));
+    println!("{}", counts.known);
+    counts.known.check().unwrap();
 }

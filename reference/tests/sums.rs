@@ -141,21 +141,19 @@ fn an_annuity_at_three_percent_lies_between_the_ends() {
 
 #[test]
 fn sums_of_the_zero_sheet() {
+    // Every year is U to U on both curves: G(U) is 0 to 0, and E(0) is U to U.
     let book = book_of(0, &zero().adjusted(0));
-    for year in 1..=20 {
+    for year in 1..=150 {
         let whole = i128::from(year) * U;
-        assert_eq!(ends(&book, Which::Plain, year), (whole, whole));
-        // Year t has lost t from its low: E(0) is U to U + 1.
-        let lost = i128::from(year * (year + 1) / 2);
-        assert_eq!(ends(&book, Which::Adjusted, year), (whole - lost, whole));
+        for which in Which::ALL {
+            assert_eq!(ends(&book, which, year), (whole, whole));
+        }
     }
-    // 8 less and 8 more, then 16 less and 17 more: G(U) is 0 to 1, and E(0) is U to U + 1.
-    assert_eq!(ends(&book, Which::Plain, 21), (21 * U - 8, 21 * U + 8));
-    assert_eq!(ends(&book, Which::Plain, 22), (22 * U - 24, 22 * U + 25));
-    assert_eq!(
-        ends(&book, Which::Plain, 150),
-        (149_999_931_880, 150_000_076_505)
-    );
+    // With an ultimate forward rate of 1 year 21 is U - 492 to U - 482.
+    let rising = Numbers { ufr: 1, ..zero() };
+    let book = book_of(0, &rising);
+    assert_eq!(ends(&book, Which::Plain, 20), (20 * U, 20 * U));
+    assert_eq!(ends(&book, Which::Plain, 21), (21 * U - 492, 21 * U - 482));
 }
 
 #[test]
@@ -231,11 +229,16 @@ fn sums_are_those_of_the_page() {
 
 #[test]
 fn both_curves_have_sums_of_their_own() {
-    for numbers in [level().adjusted(100), zero().adjusted(0)] {
+    for (numbers, the_same) in [
+        (level().adjusted(100), false),
+        (zero().adjusted(1), false),
+        // At 0 both curves are the same, and each has sums.
+        (level().adjusted(0), true),
+    ] {
         let book = book_of(0, &numbers);
         for year in 1..=150 {
             let ends = Which::ALL.map(|which| ends(&book, which, year));
-            assert_ne!(ends[0], ends[1], "year {year}");
+            assert_eq!(ends[0] == ends[1], the_same, "year {year}");
         }
     }
 }
@@ -257,12 +260,12 @@ fn a_refused_post_leaves_them() {
     let numbers = level().adjusted(100);
     let mut book = book_of(0, &numbers);
     let narrow = Numbers {
-        limit: 2_209,
-        ..zero()
+        limit: 636,
+        ..flat(3_000)
     };
     // Of the first the plain curve would be accepted.
     for (refused, number) in [
-        (narrow.clone().adjusted(0), 10),
+        (narrow.clone().adjusted(100), 10),
         (Numbers { limit: 1, ..narrow }, 10),
         (Numbers { month: 1, ..zero() }, 5),
         (flat(-2_000), 8),

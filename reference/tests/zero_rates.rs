@@ -104,13 +104,17 @@ fn desk(input: &[u8]) -> String {
 #[test]
 fn rates_of_the_figures() {
     // U to U: growth at 0 is U in every year, and U × U is at most and at least U × U.
-    for year in 1..=20 {
+    for year in 1..=150 {
         assert_eq!(rates(&zero(), year), Some((0, 0)));
     }
     // Bands around U, far narrower than a step of the rate over so many years.
     for year in [21, 22, 150] {
-        assert_eq!(rates(&zero(), year), Some((-1, 1)));
+        let around = ZeroRates::of(Enclosure::new(U - 8, U + 8), year).unwrap();
+        assert_eq!((around.low, around.high), (-1, 1));
     }
+    // U - 492 to U - 482 in year 21, where a step of the rate is 210,000 of the factor.
+    let rising = Numbers { ufr: 1, ..zero() };
+    assert_eq!(rates(&rising, 21), Some((0, 1)));
     // 970,873,787 × 1.03 is 1,000,000,000.61 and 970,873,786 × 1.03 is 999,999,999.58.
     assert_eq!(rates(&flat(3_000), 1), Some((2_999, 3_001)));
     // 942,595,910 × 1.0609 is above U, 942,595,909 × 1.0609 below.

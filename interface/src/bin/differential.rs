@@ -1,11 +1,12 @@
 //! Asks the proved library and the second implementation the same questions after seeded
 //! journals, each under several age limits and about factors and sums of both curves, which are
 //! named by numbers of every sort, and compares answers and buffers. It prints how often each kind
-//! of question met each ground, what became of posts with dropped quotes or adjustments and what
-//! the journals' withdrawals met, and fails where one never met 16, where one that asks for rates
-//! never met 17, where no adjusted curve was shown or missing, where no sum was shown or refused
-//! with 14, where no sheet was accepted with some gap that runs on over a dropped maturity, or with
-//! some tail, or where some sort of withdrawal was not met.
+//! of question met each ground, what became of posts with dropped quotes or adjustments, how many
+//! accepted ones slack at known values would change and what the journals' withdrawals met, and
+//! fails where one never met 16, where one that asks for rates never met 17, where no adjusted curve
+//! was shown or missing, where no sum was shown or refused with 14, where no sheet was accepted with
+//! some gap that runs on over a dropped maturity, or with some tail, where slack would change none
+//! in some way, or where some sort of withdrawal was not met.
 //!
 //!     differential [SEED [POSTS]]
 

@@ -1,13 +1,15 @@
 //! Runs another desk program on seeded record streams and compares its lines, byte
 //! for byte, with this implementation's; fails where no look-up was turned down on 17, where no
-//! sheet was accepted with some gap that runs on over a dropped maturity, or where some tail of a
-//! sheet, or a refusal for the adjusted curve alone, was not met. Then checks on sampled sheets
+//! sheet was accepted with some gap that runs on over a dropped maturity, where some tail of a
+//! sheet, or a refusal for the adjusted curve alone, was not met, or where no accepted post shows
+//! that nothing is added to the high of a known logarithm or growth. Then checks on sampled sheets
 //! that the bands of the plain and the adjusted curve hold their true factors of orders 0 to 3,
 //! that the true curves' own rates lie between the rates, and that their sums of years 1 to each
-//! year lie between the ends of the sums.
+//! year lie between the ends of the sums; some of these must meet a known value.
 //!
 //!     differential DESK [SEED [POSTS [SAMPLES]]]
 
+use std::fmt;
 use std::io::Write;
 use std::process::{Command, ExitCode, Stdio};
 
@@ -18,6 +20,7 @@ use reference::curve::{Curve, Curves, Which, YEARS};
 use reference::desk::run_desk;
 use reference::dropped::dropped_sheet;
 use reference::journal::calls;
+use reference::known::known_sheet;
 use reference::rates::ZeroRates;
 use reference::sheet::Sheet;
 use reference::streams::{sheet, sheet_bytes, steep_sheet, stream, worked, Random};
@@ -29,8 +32,8 @@ const RECORDS: usize = 1_000;
 const ORDERS: usize = 4;
 
 /// Of so many samples one is a steep sheet, in which some years have no high rate, two have
-/// dropped quotes and three an adjustment.
-const ROUND: u64 = 8;
+/// dropped quotes, three an adjustment and two meet a known value.
+const ROUND: u64 = 10;
 
 /// What was compared.
 #[derive(Default)]
@@ -55,6 +58,26 @@ struct Checked {
     counts: PostCounts,
 }
 
+impl fmt::Display for Checked {
+    fn fmt(&self, f: &mut fmt::Formatter<'_>) -> fmt::Result {
+        write!(
+            f,
+            "the plain curves of {} sheets, {} with dropped quotes, and {} adjusted ones hold their \
+             true factors of orders 0 to 3, and {} of their years the true rates, {} have none; {} \
+             sums hold the true ones, {} of them wider than the limit; slack at known values would \
+             change {} sheets",
+            self.sheets,
+            self.counts.dropped.all.accepted,
+            self.adjusted,
+            self.years_with_rates,
+            self.years_without,
+            self.sums,
+            self.wide_sums,
+            self.counts.known.all()
+        )
+    }
+}
+
 fn main() -> ExitCode {
     let mut arguments = std::env::args().skip(1);
     let Some(desk) = arguments.next() else {
@@ -75,18 +98,7 @@ fn main() -> ExitCode {
         check_truth(seed, samples)
     }) {
         Ok(checked) => {
-            println!(
-                "desks agree; the plain curves of {} sheets, {} with dropped quotes, and {} \
-                 adjusted ones hold their true factors of orders 0 to 3, and {} of their years the \
-                 true rates, {} have none; {} sums hold the true ones, {} of them wider than the limit",
-                checked.sheets,
-                checked.counts.dropped.all.accepted,
-                checked.adjusted,
-                checked.years_with_rates,
-                checked.years_without,
-                checked.sums,
-                checked.wide_sums
-            );
+            println!("desks agree; {checked}");
             ExitCode::SUCCESS
         }
         Err(text) => {
@@ -188,11 +200,15 @@ fn check_truth(seed: u64, samples: u64) -> Result<Checked, String> {
             0 => steep_sheet(&mut random, 0),
             1 | 2 => dropped_sheet(&mut random, 0),
             3..=5 => adjusted_sheet(&mut random, 0),
+            6 | 7 => known_sheet(&mut random, 0),
             _ => sheet(&mut random, 0),
         };
         if let Some(curves) = worked(&sheet) {
             check_sheet(&sheet, &curves, &mut checked)?;
         }
+    }
+    if samples >= ROUND && checked.counts.known.all() == 0 {
+        return Err("no sampled sheet meets a known value".to_string());
     }
     Ok(checked)
 }

@@ -5,6 +5,7 @@
 //!     vectors dropped
 //!     vectors adjustment
 //!     vectors withdrawal
+//!     vectors slack
 //!
 //! The first, stored as phase_in, reaches grounds 1 to 14, with many places, and accepted
 //! curves at many convergence factors, each looked up at its ends, around the smoothing year
@@ -14,7 +15,8 @@
 //! fourth has every tail of a sheet, accepted and refused, curves that no adjustment moves, since
 //! the desk's look-ups are of the plain curve, and sheets that only their adjusted curve turns
 //! down. The fifth has a journal's withdrawal, which the desk does not know, and records behind it
-//! that it must not serve.
+//! that it must not serve. The sixth has sheets that meet U in a logarithm or 0 in a growth, where
+//! nothing is added to the high: at the least limit, at their widest bands and just below.
 
 use std::io::Write;
 use std::process::ExitCode;
@@ -24,6 +26,7 @@ use reference::curve::YEARS as LAST_YEAR;
 use reference::dropped::{dropped_sheet, typed_dropped_sheet};
 use reference::every_ground;
 use reference::journal::{look_up, post, turn, withdrawal};
+use reference::known::known_sheet;
 use reference::rates::ZeroRates;
 use reference::sheet::Sheet;
 use reference::streams::{
@@ -80,6 +83,12 @@ const YEARS_OF_ADJUSTED: [u8; 4] = [1, 20, 21, 150];
 /// Its posts of which any may be refused.
 const ANY_ADJUSTED: usize = 150;
 
+/// Years at which each curve in the stream of slack is looked up.
+const YEARS_OF_KNOWN: [u8; 5] = [1, 20, 21, 22, 150];
+
+/// Its seeded posts.
+const ANY_KNOWN: usize = 80;
+
 fn main() -> std::io::Result<ExitCode> {
     let words: Vec<_> = std::env::args().skip(1).collect();
     let stream = match words.iter().map(String::as_str).collect::<Vec<_>>()[..] {
@@ -88,8 +97,9 @@ fn main() -> std::io::Result<ExitCode> {
         ["dropped"] => dropped(),
         ["adjustment"] => adjustment(),
         ["withdrawal"] => withdrawn(),
+        ["slack"] => slack(),
         _ => {
-            eprintln!("usage: vectors [zero_rates | dropped | adjustment | withdrawal]");
+            eprintln!("usage: vectors [zero_rates | dropped | adjustment | withdrawal | slack]");
             return Ok(ExitCode::from(2));
         }
     };
@@ -215,6 +225,99 @@ fn withdrawn() -> Vec<u8> {
         look_up(20),
     ]
     .concat()
+}
+
+fn slack() -> Vec<u8> {
+    let mut random = Random::new(SEED);
+    let mut stream = turn(LAST_MONTH);
+    for sheet in [exact(), at_their_limits()].concat() {
+        stream.extend(post(&sheet_bytes(&sheet)));
+        stream.extend(YEARS_OF_KNOWN.into_iter().flat_map(look_up));
+    }
+    for _ in 0..ANY_KNOWN {
+        stream.extend(post(&sheet_bytes(&known_sheet(&mut random, LAST_MONTH))));
+        stream.extend(look_up(21));
+        stream.extend(look_up(random.between(22, 150) as u8));
+    }
+    // The curve that stays.
+    stream.extend(post(&sheet_bytes(&within(1, flat(0, 0)))));
+    stream.extend(YEARS_OF_KNOWN.into_iter().flat_map(look_up));
+    // Cut inside the length.
+    stream.extend([0x50, 0x00]);
+    stream
+}
+
+fn within(limit: u32, sheet: Sheet) -> Sheet {
+    Sheet { limit, ..sheet }
+}
+
+fn adjusted(adjustment: i16, sheet: Sheet) -> Sheet {
+    Sheet {
+        adjustment: Some(adjustment),
+        ..sheet
+    }
+}
+
+/// Sheets at the least limit: the zero sheet in every form, and one that has rates of its own only
+/// in its first years, each of them as narrow as can be.
+fn exact() -> Vec<Sheet> {
+    let zero = || within(1, flat(0, 0));
+    let with_x = || Sheet {
+        phase_in: Some(20_000),
+        ..zero()
+    };
+    let ends_at_20 = || {
+        let mut sheet = zero();
+        sheet.volumes = [1, 0, 0, 0, 0];
+        sheet.rates[13..].copy_from_slice(&[12_000, -2_000, 1, -1]);
+        sheet
+    };
+    let early = {
+        let mut sheet = zero();
+        sheet.rates[..3].copy_from_slice(&[3_000, 0, -500]);
+        sheet
+    };
+    vec![
+        zero(),
+        adjusted(0, zero()),
+        with_x(),
+        adjusted(0, with_x()),
+        ends_at_20(),
+        adjusted(0, ends_at_20()),
+        early,
+        // Growth at an adjustment of 1 is not known: its year 1 is 7 or 8 wide.
+        adjusted(-1, zero()),
+        adjusted(1, zero()),
+        within(7, adjusted(-1, zero())),
+    ]
+}
+
+/// Sheets that meet a known value beside others, at the widest bands that they have and just below:
+/// the ultimate forward rate, the forwards or the adjustment are 0.
+fn at_their_limits() -> Vec<Sheet> {
+    let level = || flat(3_000, 0);
+    let mut later = flat(0, 0);
+    later.rates[13..].copy_from_slice(&[100, 150, 170, 160]);
+    // With an L of -1 to 0 its adjusted year 149 would be above 2 U.
+    let mut near_2_u = flat(-1_911, 0);
+    near_2_u.rates[13..].copy_from_slice(&[-1_750, -1_600, -1_400, -1_300]);
+    near_2_u.volumes = [1_000_000, 17, 1, 1, 1];
+    vec![
+        level(),
+        within(635, level()),
+        within(636, level()),
+        within(635, adjusted(0, level())),
+        within(636, adjusted(0, level())),
+        within(636, adjusted(100, level())),
+        within(672, adjusted(100, level())),
+        within(9, flat(0, 1)),
+        within(10, flat(0, 1)),
+        flat(0, 1),
+        adjusted(0, flat(0, 3_450)),
+        later,
+        near_2_u.clone(),
+        adjusted(-381, near_2_u),
+    ]
 }
 
 /// One sheet followed by every kind, alone and behind the phase-in's record, by numbers around

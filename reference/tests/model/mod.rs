@@ -2,8 +2,10 @@
 //! LLFR is the paper's formula on the forwards g1 to g5 of gaps 15-20, 20-25, 25-30, 30-40 and
 //! 40-50: with every quote this is the rule from before quotes were dropped. Where a gap runs
 //! on over dropped maturities, its forward stands for each of these gaps inside it. The adjusted
-//! curve starts again from the same years and forwards.
+//! curve starts again from the same years and forwards. Logarithm and growth are given, so that
+//! what another rule would make of a sheet can be told.
 
+use reference::enclosure::Enclosure;
 use reference::series::{growth, neg_log};
 use reference::sheet::{Sheet, MATURITIES};
 use reference::weights::weights;
@@ -16,6 +18,17 @@ const GAP_ENDS: [usize; 5] = [20, 25, 30, 40, 50];
 
 /// Number and place.
 pub type Ground = (u8, u8);
+
+/// The logarithm G and the growth E that a curve is worked with. (The weights of a sheet with an X
+/// are always those of the rule: no growth in them is known.)
+#[derive(Clone, Copy)]
+pub struct Series {
+    pub neg_log: fn(i128) -> Enclosure,
+    pub growth: fn(i128) -> Enclosure,
+}
+
+/// Those of the rule.
+pub const RULE: Series = Series { neg_log, growth };
 
 fn down(n: i128, d: i128) -> i128 {
     n.div_euclid(d)
@@ -41,35 +54,54 @@ impl Model {
 
     /// Over the quotes up to 20 and those of `later` maturities.
     pub fn over(sheet: &Sheet, later: &[u8]) -> Result<Model, Ground> {
-        let (years, g) = Model::quoted(sheet, later)?;
-        years.extrapolate(sheet, llfr(sheet.volumes, g))
+        Model::with(sheet, later, RULE)
+    }
+
+    /// The same with any logarithm and growth.
+    pub fn with(sheet: &Sheet, later: &[u8], series: Series) -> Result<Model, Ground> {
+        let (years, g) = Model::quoted(sheet, later, series)?;
+        years.extrapolate(sheet, llfr(sheet.volumes, g), series)
     }
 
     /// The plain curve and, with the sheet's adjustment, the adjusted one, or the first ground of
     /// either.
     #[allow(dead_code)]
     pub fn both_over(sheet: &Sheet, later: &[u8], adjustment: i16) -> Result<[Model; 2], Ground> {
-        let plain = Model::over(sheet, later)?;
-        let (mut years, mut g) = Model::quoted(sheet, later)?;
+        Model::both_with(sheet, later, adjustment, RULE)
+    }
+
+    /// The same with any logarithm and growth.
+    pub fn both_with(
+        sheet: &Sheet,
+        later: &[u8],
+        adjustment: i16,
+        series: Series,
+    ) -> Result<[Model; 2], Ground> {
+        let plain = Model::with(sheet, later, series)?;
+        let (mut years, mut g) = Model::quoted(sheet, later, series)?;
         let more = 10_000 * i128::from(adjustment);
         years.lows.truncate(20);
         years.highs.truncate(20);
         for t in 1..=20 {
             for _ in 0..t {
-                (years.lows[t - 1], years.highs[t - 1]) =
-                    step((years.lows[t - 1], years.highs[t - 1]), (more, more));
+                let factor = (years.lows[t - 1], years.highs[t - 1]);
+                (years.lows[t - 1], years.highs[t - 1]) = step(factor, (more, more), series);
             }
             if years.highs[t - 1] > 2 * U {
                 return Err((8, t as u8));
             }
         }
         g[0] = (g[0].0 + more, g[0].1 + more);
-        let adjusted = years.extrapolate(sheet, llfr(sheet.volumes, g))?;
+        let adjusted = years.extrapolate(sheet, llfr(sheet.volumes, g), series)?;
         Ok([plain, adjusted])
     }
 
     /// The years from the quotes, and g1 to g5.
-    fn quoted(sheet: &Sheet, later: &[u8]) -> Result<(Model, [(i128, i128); 5]), Ground> {
+    fn quoted(
+        sheet: &Sheet,
+        later: &[u8],
+        series: Series,
+    ) -> Result<(Model, [(i128, i128); 5]), Ground> {
         let mut years = Model::default();
         let mut g = [(0, 0); 5];
         for (maturity, rate) in MATURITIES.into_iter().zip(sheet.rates.map(i128::from)) {
@@ -79,7 +111,7 @@ impl Model {
             let (start, end) = (years.lows.len(), usize::from(maturity));
             if end - start > 1 {
                 let x = years.fill_gap(end, rate)?;
-                let forward = (neg_log(x.1).low, neg_log(x.0).high);
+                let forward = ((series.neg_log)(x.1).low, (series.neg_log)(x.0).high);
                 for (g, gap_end) in g.iter_mut().zip(GAP_ENDS) {
                     if start < gap_end && gap_end <= end {
                         *g = forward;
@@ -167,16 +199,21 @@ impl Model {
         r * if r >= 0 { a_low } else { a_high } + 100_000 * low
     }
 
-    fn extrapolate(mut self, sheet: &Sheet, llfr: (i128, i128)) -> Result<Model, Ground> {
+    fn extrapolate(
+        mut self,
+        sheet: &Sheet,
+        llfr: (i128, i128),
+        series: Series,
+    ) -> Result<Model, Ground> {
         self.lows.truncate(20);
         self.highs.truncate(20);
-        let l = neg_log(U + 10_000 * i128::from(sheet.ufr));
+        let l = (series.neg_log)(U + 10_000 * i128::from(sheet.ufr));
         let l = (-l.high, -l.low);
         for (i, k) in weights(sheet.convergence()).into_iter().enumerate() {
             let low = |k| down(l.0 * (U - k) + llfr.0 * k, U);
             let high = |k| up(l.1 * (U - k) + llfr.1 * k, U);
             let f = (low(k.low).min(low(k.high)), high(k.low).max(high(k.high)));
-            let (low, high) = step((self.lows[19 + i], self.highs[19 + i]), f);
+            let (low, high) = step((self.lows[19 + i], self.highs[19 + i]), f, series);
             self.lows.push(low);
             self.highs.push(high);
             if self.highs[20 + i] > 2 * U {
@@ -192,7 +229,8 @@ impl Model {
 }
 
 /// The step of extrapolated years: from one year's low and high to the next one's.
-fn step((low, high): (i128, i128), f: (i128, i128)) -> (i128, i128) {
+fn step((low, high): (i128, i128), f: (i128, i128), series: Series) -> (i128, i128) {
+    let growth = series.growth;
     let low = match f.1 {
         0.. => down(low * U, growth(f.1).high),
         _ => down(low * growth(-f.1).low, U),
