@@ -4,7 +4,7 @@ use mathlib.Core.Bool.{Bool, true, false, not, cond, _&&_}
 use mathlib.Core.List.{List, []}
 use Prim.Native.Nat.{ℕ, zero, suc, _≤_, _<_, min}
 use native.Mathlib.Omega.{arith}
-use borrow.Author.Tests.{le-leb, lt-leb}
+use borrow.Author.Tests.{not-true, not-false, le-leb, lt-leb}
 use lib.Dec.{leb, eqb, eqb·suc-zero}
 use lib.ListN.{length, take}
 use lib.Seq.{take-all}
@@ -57,21 +57,13 @@ down {r} {b} (e, (no-month, same)) h o =
     let verdict = ap (λ (x : Verdict). seen b x (r .month)) (e ∙ h) in
     (book ∙ verdict ∙ sym o, no-month ∙ ap (λ (p : Booked ℕ). resultOr 0 (p .answer)) (sym o))
 
--- ---- the flag beside the curve, and a test that the code negates
-
-pub not-so : (b : Bool) → not b ≡ true → b ≡ false
-not-so true e = sym e
-not-so false e = refl
-
-pub so : (b : Bool) → not b ≡ false → b ≡ true
-so true e = refl
-so false e = sym e
+-- ---- the flag beside the curve
 
 pub stands : (has : Bool) (c : curve.Curve) → not has ≡ false → asHeld has c ≡ some (asCurve c)
-stands has c e = rw (so has e)
+stands has c e = rw (not-false has e)
 
 pub vacant : (has : Bool) (c : curve.Curve) → not has ≡ true → asHeld has c ≡ none
-vacant has c e = rw (not-so has e)
+vacant has c e = rw (not-true has e)
 
 -- ---- the flags beside the curves
 

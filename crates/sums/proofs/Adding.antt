@@ -1,5 +1,5 @@
 -- Running sums, one factor on; and the sums of a curve that may not be there.
-use mathlib.Core.Path.{_≡_, refl, ap, sym}
+use mathlib.Core.Path.{_≡_, refl, ap}
 use mathlib.Core.Bool.{Bool, true, false, not, false≢true}
 use mathlib.Core.List.{List, [], _∷_}
 use Prim.Native.Nat.{ℕ, zero, suc, _+_, _≤_, _<_}
@@ -33,10 +33,6 @@ past-end (x ∷ xs) zero h = absurd (omega (arith, h))
 past-end (x ∷ xs) (suc i) h = past-end xs i (omega arith)
 
 -- by the flag beside a curve and its sums
-pub is-held : (has : Bool) → not has ≡ false → has ≡ true
-is-held true e = refl
-is-held false e = sym e
-
 pub none-held : (has : Bool) (c : Curve) (k : Sums) → not has ≡ true → asHeldSums has k ≡ sumsOfHeld (asHeld has c)
 none-held true c k e = absurd (false≢true e)
 none-held false c k e = refl

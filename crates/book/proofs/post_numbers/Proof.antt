@@ -2,13 +2,14 @@
 use mathlib.Core.Path.{_≡_, refl, sym, ap, _∙_}
 use mathlib.Core.Bool.{true}
 use Prim.Native.Nat.{ℕ, _≤_}
+use borrow.Author.Tests.{not-true, not-false}
 use denote.Ref.{now}
 use Rattle.ledger.specs.Book.{Booked, notBefore}
 use Rattle.grounds.specs.Verdicts.{resultOr}
 use Rattle.grounds.proofs.Chain.{at-verdict}
 use Rattle.sheet.specs.Views.{asNumbers}
 use Rattle.book.specs.Views.{asBook}
-use Rattle.book.proofs.Booking.{down, so, not-so, order-is, after-told, before-standing, curve-refused, curve-worked}
+use Rattle.book.proofs.Booking.{down, order-is, after-told, before-standing, curve-refused, curve-worked}
 use borrow.Author.Needs.{needs}
 use Rattle.book.proofs.post_numbers.Statement.{statement}
 use Rattle.book.proofs.post_numbers.Tie as tie
@@ -28,7 +29,7 @@ module _ (m : tie.Else2) where
   in-order =
       sym (order-is (start .args .book .standing .has) (start .args .book .standing .summed) (start .args .n .month))
       ∙ sym (m .before .not-before .ensures)
-      ∙ so (m .before .not-before .result) (m .if2 .left)
+      ∙ not-false (m .before .not-before .result) (m .if2 .left)
 
 turned-down-requires : tie.Need-turned-down-requires
 turned-down-requires c κs = search needs
@@ -51,7 +52,7 @@ returns-2 c =
     let at-month = at-order .before in
     let a = at-month .before .before .before .before .args in
     let standing = order-is (a .book .standing .has) (a .book .standing .summed) (a .n .month) in
-    let order = sym standing ∙ sym (at-order .not-before .ensures) ∙ not-so (at-order .not-before .result) (c .before .if2 .taken) in
+    let order = sym standing ∙ sym (at-order .not-before .ensures) ∙ not-true (at-order .not-before .result) (c .before .if2 .taken) in
     down (c .turned-down2 .ensures) refl (before-standing (asBook (a .book)) (now (a .sheet)) (asNumbers (a .n)) (at-month .if1 .left) order)
 
 from-numbers-requires : tie.Need-from-numbers-requires

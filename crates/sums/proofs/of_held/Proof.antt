@@ -1,8 +1,9 @@
 -- None without a curve; else its sums.
 use mathlib.Core.Path.{_≡_, sym, _∙_}
 use mathlib.Core.Bool.{true, false≢true}
+use borrow.Author.Tests.{not-false}
 use borrow.Author.Needs.{needs}
-use Rattle.sums.proofs.Adding.{is-held, none-held, some-held}
+use Rattle.sums.proofs.Adding.{none-held, some-held}
 use Rattle.sums.proofs.of_held.Statement.{statement}
 use Rattle.sums.proofs.of_held.Tie as tie
 
@@ -18,7 +19,7 @@ of-curve-requires c κs = search needs
 returns-2 : tie.Need-returns-2
 returns-2 c =
     let a = c .before .before .args in
-    let held : a .has ≡ true = is-held (a .has) (c .before .if1 .left) in
+    let held : a .has ≡ true = not-false (a .has) (c .before .if1 .left) in
     (some-held (a .has) (a .curve) _ (c .of-curve .ensures), λ e. absurd (false≢true (sym e ∙ held)))
 
 pub of-held-spec : {M : Type 1} → statement M
