@@ -24,6 +24,10 @@ encloses-exact z = record { below = ≤ℚ-refl (intℚ z); above = ≤ℚ-refl 
 pub encloses-ordered : {a b : ℤ} {x : ℚ} → Encloses a b x → a ≤ℤ b
 encloses-ordered {a} {b} h = intℚ-reflects a b (≤ℚ-trans (h .below) (h .above))
 
+-- an integer up to another, by which steps are shown to grow
+pub betweenℤ : {a b : ℤ} → a ≤ℤ b → Encloses a b (intℚ a)
+betweenℤ {a} h = record { below = ≤ℚ-refl (intℚ a); above = intℚ-mono h }
+
 pub encloses-widen : {a b c e : ℤ} {x : ℚ} → c ≤ℤ a → b ≤ℤ e → Encloses a b x → Encloses c e x
 encloses-widen l u h =
     record { below = ≤ℚ-trans (intℚ-mono l) (h .below); above = ≤ℚ-trans (h .above) (intℚ-mono u) }
@@ -63,6 +67,9 @@ encloses-neg {a} {b} h =
       below = ≈-≤ℚ-trans (intℚ-neg b) (negℚ-anti (h .above));
       above = ≤ℚ-≈-trans (negℚ-anti (h .below)) (≈-sym (intℚ-neg a));
     }
+
+pub negℤ-anti : {a b : ℤ} → a ≤ℤ b → negℤ b ≤ℤ negℤ a
+negℤ-anti h = encloses-ordered (encloses-neg (betweenℤ h))
 
 pub encloses-- : {a b c e : ℤ} {x y : ℚ} → Encloses a b x → Encloses c e y → Encloses (a -ℤ e) (b -ℤ c) (x -ℚ y)
 encloses-- h k = encloses-+ h (encloses-neg k)

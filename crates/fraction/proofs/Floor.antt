@@ -8,11 +8,11 @@ use lib.IntN.{ℤ, pos, negsuc, negℤ}
 use lib.Signed.{_≤ℤ_}
 use Rattle.fraction.specs.Fraction.{_≈_, _≤ℚ_, _<ℚ_, natℚ, intℚ, negℚ, _+ℚ_, _-ℚ_, _*ℚ_, _÷_}
 use Rattle.fraction.specs.Rounding.{floor, ceiling, ceilDiv}
-use Rattle.fraction.proofs.Order.{≤ℚ-<ℚ-trans, <ℚ-≤ℚ-trans, ≤ℚ-≈-trans, ≈-≤ℚ-trans, ≈→≤, ≈→≥, ≈-sym, ≈-trans, ≈-refl}
+use Rattle.fraction.proofs.Order.{≤ℚ-trans, ≤ℚ-<ℚ-trans, <ℚ-≤ℚ-trans, ≤ℚ-≈-trans, ≈-≤ℚ-trans, ≈→≤, ≈→≥, ≈-sym, ≈-trans, ≈-refl}
 use Rattle.fraction.proofs.Sum.{negℚ-anti, negℚ-strict, negℚ-cong, negℚ-negℚ, negℚ-+ℚ, +ℚ-cong}
 use Rattle.fraction.proofs.Product.{negℚ-*ℚ, *ℚ-cong-left}
-use Rattle.fraction.proofs.Integer.{natℚ-positive, intℚ-neg}
-use Rattle.fraction.proofs.Quotient.{≤-÷, ÷-<}
+use Rattle.fraction.proofs.Integer.{natℚ-positive, intℚ-neg, intℚ-mono}
+use Rattle.fraction.proofs.Quotient.{≤-÷, ÷-<, ÷-mono-left}
 
 -- ---- floor
 
@@ -71,6 +71,13 @@ floor-greatest w z {d} h k = within-1→≤ℤ w (floor z d) (≤ℚ-<ℚ-trans 
 
 pub ceiling-least : (w z : ℤ) {d : ℕ} → 0 < d → intℚ z ÷ natℚ d ≤ℚ intℚ w → ceiling z d ≤ℤ w
 ceiling-least w z {d} h k = within-1→≥ℤ w (ceiling z d) (<ℚ-≤ℚ-trans (ceiling-within-1 z h) k)
+
+-- so each grows with what is divided
+pub floor-mono : {a b : ℤ} {d : ℕ} → 0 < d → a ≤ℤ b → floor a d ≤ℤ floor b d
+floor-mono {a} {b} {d} p h = floor-greatest (floor a d) b p (≤ℚ-trans (floor-≤ a p) (÷-mono-left (natℚ d) (intℚ-mono h)))
+
+pub ceiling-mono : {a b : ℤ} {d : ℕ} → 0 < d → a ≤ℤ b → ceiling a d ≤ℤ ceiling b d
+ceiling-mono {a} {b} {d} p h = ceiling-least (ceiling b d) a p (≤ℚ-trans (÷-mono-left (natℚ d) (intℚ-mono h)) (ceiling-≥ b p))
 
 -- ---- on naturals
 

@@ -7,7 +7,7 @@ use lib.Dec.{T, ltb, ltb→lt, nltb→le, leb→le, le→leb, lt→ltb}
 use lib.IntN.{ℤ, pos, negsuc, negℤ, subℕ, _+ℤ_, _*ℤ_, _-ℤ_}
 use lib.Signed.{leZ, ltZ, _≤ℤ_, _<ℤ_}
 use Rattle.fraction.specs.Fraction.{_≈_, _≤ℚ_, _<ℚ_, NonNegative, Positive, natℚ, posPart, negPart, intℚ, negℚ, _+ℚ_, _-ℚ_, _*ℚ_}
-use Rattle.fraction.proofs.Order.{≈-refl, ≈-trans}
+use Rattle.fraction.proofs.Order.{≤ℚ-trans, ≈-refl, ≈-trans}
 use Rattle.fraction.proofs.Sum.{+ℚ-cong}
 
 -- ---- naturals
@@ -84,6 +84,9 @@ intℚ-reflects a b h = record { le = go a b h }
     go (pos a) (negsuc b) t = absurd (omega arith)
     go (negsuc a) (pos b) t = tt
     go (negsuc a) (negsuc b) t = omega (arith, le→leb)
+
+pub ≤ℤ-trans : {a b c : ℤ} → a ≤ℤ b → b ≤ℤ c → a ≤ℤ c
+≤ℤ-trans {a} {b} {c} h k = intℚ-reflects a c (≤ℚ-trans (intℚ-mono h) (intℚ-mono k))
 
 pub intℚ-reflects-< : (a b : ℤ) → intℚ a <ℚ intℚ b → a <ℤ b
 unfolding intℚ

@@ -18,7 +18,8 @@ use Rattle.method.specs.Quotes.{used, kept, Bootstrap, bootstrap}
 use Rattle.method.specs.Series.{gapForward}
 use Rattle.method.specs.Extrapolation.{at, llfrNumerator, llfr}
 use Rattle.method.specs.Curve.{smoothingIndex, usedBy, usedQuotes, spread, gapForwards, factorOf}
-use Rattle.method.specs.Curve.{extendedWith, curveOfWith, curveOf, adjustedCurveWith, adjustedCurve, adjustedIf, curvesOfWith, curvesOf, answerWith, answer}
+use Rattle.method.specs.Curve.{extendedWith, curveOfWith, curveOf, adjustedCurveWith, adjustedCurve}
+use Rattle.method.specs.Curve.{adjustedIf, curvesOfWith, curvesOf, answerWith, answer}
 use Rattle.method.proofs.Entries.{map-at}
 use Rattle.method.proofs.Used.{kept-quotes, kept-front, used-to, used-past, spread-length, as-many-marks, gaps-length}
 

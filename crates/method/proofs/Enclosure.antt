@@ -19,7 +19,8 @@ use Rattle.method.specs.Quotes.{Bootstrap, bootstrap}
 use Rattle.method.specs.Series.{gapForward, ultimateForward}
 use Rattle.method.specs.Extrapolation.{llfr, adjustedYears, firstRaised}
 use Rattle.method.specs.Curve.{Curve, Curves, some, curveNamed, smoothingYear, smoothingIndex, usedBy, usedQuotes, spread, gapForwards}
-use Rattle.method.specs.Curve.{extended, curveWith, curveOfWith, curveOf, adjustedCurveWith, adjustedCurve, adjustedIf, curvesOfWith, curvesOf, answerWith, answer}
+use Rattle.method.specs.Curve.{extended, curveWith, curveOfWith, curveOf, adjustedCurveWith, adjustedCurve}
+use Rattle.method.specs.Curve.{adjustedIf, curvesOfWith, curvesOf, answerWith, answer}
 use Rattle.method.specs.True.{billion, minusLog, Liquid, liquid, yearlyTo, lastLiquidForward, toLastYear}
 use Rattle.method.specs.True.{trueMaturities, trueLiquid, trueForwards, truePlain, withVA, trueAdjusted, trueCurve, trueFactor}
 use Rattle.method.specs.Enclosure.{CurveHolds, lowOf, highOf}

@@ -1,27 +1,30 @@
 -- Laws of the extrapolation: the cases of a year, and what keeps a low at most its high.
 use mathlib.Core.Path.{_≡_, refl}
 use mathlib.Core.List.{List, [], _∷_, _++_, append-assoc}
-use Prim.Native.Nat.{ℕ, zero, suc, _+_, _*_, _/_, _≤_, _<_, suc-le-suc}
-use native.Mathlib.Nat.{mul-le-mul, mul-le-mul-right, div-le-of-le-mul, le-div-iff-mul-le}
+use Prim.Native.Nat.{ℕ, zero, suc, _+_, _*_, _≤_, _<_, suc-le-suc}
+use native.Mathlib.Nat.{mul-le-mul-right, le-trans}
 use native.Mathlib.Omega.{arith}
 use borrow.Author.Tests.{le-leb, lt-leb}
 use lib.Dec.{leb→le}
 use lib.IntN.{ℤ, pos, negsuc}
 use lib.Signed.{_≤ℤ_}
-use Rattle.fraction.specs.Fraction.{ℚ, natℚ, intℚ, _÷_}
-use Rattle.fraction.specs.Rounding.{U, ceilDiv, Encloses}
+use Rattle.fraction.specs.Fraction.{ℚ, natℚ, _÷_}
+use Rattle.fraction.specs.Rounding.{U, Encloses}
 use Rattle.fraction.proofs.Order.{≤ℚ-refl, ≈-sym, ≈-trans}
 use Rattle.fraction.proofs.Product.{*ℚ-comm}
-use Rattle.fraction.proofs.Integer.{intℚ-mono, natℚ-mono, natℚ-positive}
+use Rattle.fraction.proofs.Integer.{natℚ-mono, natℚ-positive}
 use Rattle.fraction.proofs.Quotient.{÷-*ℚ}
 use Rattle.fraction.proofs.Rounding.{U-positive}
-use Rattle.fraction.proofs.Enclosure.{encloses-ordered, encloses-≈, encloses-÷-nat, encloses-ratio, encloses-scaled, nat-encloses}
+use Rattle.fraction.proofs.Enclosure.{betweenℤ, encloses-ordered, encloses-≈, encloses-ratio, encloses-scaled, nat-encloses}
 use Rattle.method.specs.Units.{Pair, SignedPair, signedPair}
 use Rattle.method.specs.Grounds.{highAboveLimit, Outcome, refused, done, _>>=_}
 use Rattle.method.specs.Quotes.{highestFactor}
-use Rattle.method.specs.Series.{growthSum, growth, growthLow, growthHigh}
-use Rattle.method.specs.Extrapolation.{forward, stepLow, stepHigh, stepWith, step, extrapolateWith, extrapolate, billionths, stepsWith, steps, adjustedYearsWith, adjustedYears}
+use Rattle.method.specs.Series.{growth, growthLow, growthHigh}
+use Rattle.method.specs.Extrapolation.{forward, stepLow, stepHigh, stepWith, step, extrapolateWith}
+use Rattle.method.specs.Extrapolation.{extrapolate, billionths, stepsWith, steps, adjustedYearsWith, adjustedYears}
 use Rattle.method.specs.True.{billion}
+use Rattle.method.proofs.Quotients.{shrinks, grows, down-below-up}
+use Rattle.method.proofs.Growth.{growth-mono}
 use Rattle.method.proofs.Forward.{Weighs, forward-encloses}
 
 -- ---- a year is worked, or refused by ground 8
@@ -80,22 +83,11 @@ none-adjusted a year = refl
 between : {a b : ℕ} → a ≤ b → Encloses (pos a) (pos b) (natℚ a)
 between {a} h = nat-encloses (≤ℚ-refl (natℚ a)) (natℚ-mono h)
 
-pub betweenℤ : {a b : ℤ} → a ≤ℤ b → Encloses a b (intℚ a)
-betweenℤ {a} h = record { below = ≤ℚ-refl (intℚ a); above = intℚ-mono h }
-
 ordered : {a b : ℕ} {x : ℚ} → Encloses (pos a) (pos b) x → a ≤ b
 ordered {a} {b} h = leb→le a b (encloses-ordered h .le)
 
-growthSum-ordered : (y z i t u k : ℕ) → 0 < i → y ≤ z → t ≤ u → growthSum _/_ y i t k ≤ growthSum ceilDiv z i u k
-unfolding growthSum
-growthSum-ordered y z i t u zero o h l = omega arith
-growthSum-ordered y z i t u (suc k) o h l =
-    let next = ordered (encloses-÷-nat {d = i * U} (omega arith) (between (mul-le-mul l h))) in
-    omega (arith, next, growthSum-ordered y z (suc i) _ _ k (omega arith) h next)
-
 pub growth-ordered : (y z : ℕ) → y ≤ z → growthLow y ≤ growthHigh z
-unfolding growth
-growth-ordered y z h = omega (arith, growthSum-ordered y z 1 U U 7 (omega arith) h (omega arith))
+growth-ordered y z h = omega (arith, growth-mono down-below-up h)
 
 -- a year's step, at an ordered forward
 pub step-ordered : (f : SignedPair) (p : Pair) → f .low ≤ℤ f .high → p .low ≤ p .high → step f p .low ≤ step f p .high
@@ -106,9 +98,9 @@ step-ordered f p hf hp = go (f .low) (f .high) hf
     go (pos a) (pos b) h =
         ordered (encloses-ratio (omega arith) (omega arith) (between (mul-le-mul-right U hp)) (between (growth-ordered a b (leb→le a b (h .le)))))
     go (negsuc a) (pos b) h =
-        let fallen : p .low * U / growthHigh b ≤ p .low = div-le-of-le-mul (growthHigh b) (omega arith) in
-        let risen : p .high ≤ ceilDiv (p .high * growthHigh (suc a)) U = le-div-iff-mul-le U-positive .1 (omega arith) in
-        omega (arith, fallen, risen)
+        let fallen = shrinks (p .low) {e = growthHigh b} U-positive (omega arith) .0 in
+        let risen = grows (p .high) {e = growthHigh (suc a)} U-positive (omega arith) .1 in
+        le-trans fallen (le-trans hp risen)
     go (pos a) (negsuc b) h = absurd (h .le)
     go (negsuc a) (negsuc b) h = ordered (encloses-scaled U-positive (between hp) (between (growth-ordered (suc b) (suc a) (suc-le-suc (leb→le b a (h .le))))))
 

@@ -1,26 +1,23 @@
 -- Without slack every band lies inside the earlier one, and what was accepted stays accepted. Each step grows with the ends that it is
 -- worked from, so what is worked from narrower ends is narrower; the two computations are walked side by side (`Follows`).
-use mathlib.Core.Path.{_≡_, refl, ap, sym, subst, _∙_}
+use mathlib.Core.Path.{_≡_, refl, sym, subst, _∙_}
 use mathlib.Core.Bool.{Bool, true, false, cond}
-use mathlib.Core.List.{List, [], _∷_, _++_, map}
+use mathlib.Core.List.{List, [], _∷_, map}
 use Prim.Native.Nat.{ℕ, zero, suc, _+_, _*_, _-_, _/_, _≤_, _<_, suc-le-suc}
-use native.Mathlib.Nat.{le-refl, le-trans, mul-le-mul, mul-le-mul-left, mul-le-mul-right, div-le-of-le-mul, div-mul-le-self, le-div-iff-mul-le, lt-div-mul-add}
+use native.Mathlib.Nat.{le-refl, le-trans, mul-le-mul, mul-le-mul-right}
 use native.Mathlib.Omega.{arith}
 use borrow.Author.Tests.{le-leb, leb-true, eqb-true}
 use lib.Dec.{leb, eqb, leb→le, le→leb}
 use lib.IntN.{ℤ, pos, negsuc, negℤ, _+ℤ_}
-use lib.ListN.{length, take, drop, getD}
+use lib.ListN.{take, drop, getD}
 use lib.Signed.{leZ, _≤ℤ_, ≤ℤ-refl}
-use Rattle.fraction.specs.Fraction.{natℚ}
 use Rattle.fraction.specs.Rounding.{U, floor, ceiling, ceilDiv}
-use Rattle.fraction.proofs.Order.{≤ℚ-trans}
-use Rattle.fraction.proofs.Integer.{intℚ-mono, intℚ-reflects}
-use Rattle.fraction.proofs.Quotient.{÷-mono-left}
-use Rattle.fraction.proofs.Floor.{floor-≤, floor-greatest, ceiling-≥, ceiling-least}
-use Rattle.fraction.proofs.Enclosure.{encloses-exact, encloses-ordered, encloses-+, encloses-neg, encloses-times}
+use Rattle.fraction.proofs.Integer.{≤ℤ-trans}
+use Rattle.fraction.proofs.Floor.{floor-mono, ceiling-mono}
+use Rattle.fraction.proofs.Enclosure.{encloses-exact, encloses-ordered, betweenℤ, negℤ-anti, encloses-+, encloses-times}
 use Rattle.fraction.proofs.Rounding.{U-positive}
 use Rattle.method.specs.Units.{plain, adjusted, Pair, pair, SignedPair, signedPair}
-use Rattle.method.specs.Grounds.{Ground, Outcome, refused, done, _>>=_, demand}
+use Rattle.method.specs.Grounds.{done}
 use Rattle.method.specs.Sheet.{Numbers, total, readSheet}
 use Rattle.method.specs.Quotes.{highestFactor, Bootstrap, bootstrap, lastYear}
 use Rattle.method.specs.Series.{added, logarithm, GWith, G, gapForwardWith, gapForward, ultimateForwardWith, ultimateForward}
@@ -32,43 +29,17 @@ use Rattle.method.specs.Curve.{Curve, Held, Curves, smoothingYear, smoot
 use Rattle.method.specs.Curve.{withinLimit, extendedWith, extended, curveWith, curveOfWith, curveOf, adjustedCurveWith, adjustedCurve}
 use Rattle.method.specs.Curve.{adjustedIfWith, adjustedIf, curvesOfWith, curvesOf, answerWith, answer}
 use Rattle.method.specs.Earlier.{earlierAnswer, CurveInside, HeldInside, neither, both, CurvesInside, AcceptedInside}
-use Rattle.method.proofs.Outcome.{refused-not-done, done-injective, split}
-use Rattle.method.proofs.Quotients.{down-below-down, up-below-up, ceilDiv-≤}
+use Rattle.method.proofs.Outcome.{done-injective, split}
+use Rattle.method.proofs.Following.{Follows, gives, follow, follow-from, follow-test, result}
+use Rattle.method.proofs.Following.{Pairwise, none, more, pairwise-length, pairwise-append, pairwise-at}
+use Rattle.method.proofs.Quotients.{div-anti, ceilDiv-anti, shrinks, grows, down-below-down, up-below-up}
 use Rattle.method.proofs.Slack.{added-most, one-added}
 use Rattle.method.proofs.Logarithm.{distance}
 use Rattle.method.proofs.Growth.{growth-mono, growthLow-≥, growthLow-≤-growthHigh}
 use Rattle.method.proofs.Forward.{smaller-below, larger-above, encloses-weight}
-use Rattle.method.proofs.ExtrapolationLaws.{betweenℤ}
 use Rattle.method.proofs.SheetBounds.{read-bounds}
 
--- ---- two computations side by side: where the second gives a result, so does the first, and R holds of the two
-
-data Follows {A : Type 0} (R : A → A → Type 0) : Outcome A → Outcome A → Type 0 where
-  refuses : {o : Outcome A} {g : Ground} → Follows R o (refused g)
-  gives : {x y : A} → R x y → Follows R (done x) (done y)
-
-follow : {A B : Type 0} {R : A → A → Type 0} {S : B → B → Type 0} {o e : Outcome A} {f g : A → Outcome B} →
-    Follows R o e → ((x y : A) → R x y → Follows S (f x) (g y)) → Follows S (o >>= f) (e >>= g)
-follow refuses k = refuses
-follow (gives {x} {y} r) k = k x y r
-
--- from one result
-follow-from : {A B : Type 0} {S : B → B → Type 0} (o : Outcome A) {f g : A → Outcome B} →
-    ((x : A) → o ≡ done x → Follows S (f x) (g x)) → Follows S (o >>= f) (o >>= g)
-follow-from (refused r) k = refuses
-follow-from (done x) k = k x refl
-
--- through a test that the first passes where the second does
-follow-test : {B : Type 0} {S : B → B → Type 0} (b c : Bool) (g h : Ground) {x y : Outcome B} → (c ≡ true → b ≡ true) →
-    Follows S x y → Follows S (demand b g >>= λ u. x) (demand c h >>= λ u. y)
-follow-test b false g h t k = refuses
-follow-test b true g h t k = rw (t refl) k
-
-result : {A : Type 0} {R : A → A → Type 0} {o e : Outcome A} {y : A} → Follows R o e → e ≡ done y → (x : A) × (o ≡ done x) × R x y
-result refuses q = absurd (refused-not-done q)
-result {R = R} (gives {x} r) q = (x, refl, subst (R x) (done-injective q) r)
-
--- ---- pairs inside others, and lists of them
+-- ---- pairs inside others
 
 record Inside (p outer : Pair) : Type 0 where
   low-inside : outer .low ≤ p .low
@@ -78,10 +49,6 @@ record SignedInside (f outer : SignedPair) : Type 0 where
   low-inside : outer .low ≤ℤ f .low
   high-inside : f .high ≤ℤ outer .high
 
-data Pairwise {A : Type 0} (R : A → A → Type 0) : List A → List A → Type 0 where
-  none : Pairwise R [] []
-  more : {x y : A} {xs ys : List A} → R x y → Pairwise R xs ys → Pairwise R (x ∷ xs) (y ∷ ys)
-
 itself : (p : Pair) → Inside p p
 itself p = record { low-inside = le-refl (p .low); high-inside = le-refl (p .high) }
 
@@ -89,40 +56,11 @@ themselves : (ps : List Pair) → Pairwise Inside ps ps
 themselves [] = none
 themselves (p ∷ ps) = more (itself p) (themselves ps)
 
-pairwise-length : {A : Type 0} {R : A → A → Type 0} {xs ys : List A} → Pairwise R xs ys → length xs ≡ length ys
-pairwise-length none = refl
-pairwise-length (more r k) = ap suc (pairwise-length k)
-
-pairwise-append : {A : Type 0} {R : A → A → Type 0} {ws xs ys zs : List A} → Pairwise R ws xs → Pairwise R ys zs → Pairwise R (ws ++ ys) (xs ++ zs)
-pairwise-append none k = k
-pairwise-append (more r j) k = more r (pairwise-append j k)
-
--- what is read off both, entry by entry; past the end stands the same on both sides
-pairwise-at : {A B : Type 0} {R : A → A → Type 0} (S : B → B → Type 0) (read : A → B) (d : B) → S d d → ((x y : A) → R x y → S (read x) (read y)) →
-    {xs ys : List A} → Pairwise R xs ys → (i : ℕ) → S (getD (map read xs) i d) (getD (map read ys) i d)
-pairwise-at S read d past each none i = past
-pairwise-at S read d past each (more {x} {y} r k) zero = each x y r
-pairwise-at S read d past each (more r k) (suc i) = pairwise-at S read d past each k i
-
 last-inside : {ps qs : List Pair} → Pairwise Inside ps qs → Inside (lastYear ps) (lastYear qs)
 unfolding lastYear
 last-inside none = itself (pair U U)
 last-inside (more r none) = r
 last-inside (more r (more s k)) = last-inside (more s k)
-
--- ---- integers, by enclosure: the smaller is enclosed by the two
-
-≤ℤ-trans : {a b c : ℤ} → a ≤ℤ b → b ≤ℤ c → a ≤ℤ c
-≤ℤ-trans {a} {b} {c} h k = intℚ-reflects a c (≤ℚ-trans (intℚ-mono h) (intℚ-mono k))
-
-negℤ-anti : {a b : ℤ} → a ≤ℤ b → negℤ b ≤ℤ negℤ a
-negℤ-anti h = encloses-ordered (encloses-neg (betweenℤ h))
-
-floor-mono : {a b : ℤ} {d : ℕ} → 0 < d → a ≤ℤ b → floor a d ≤ℤ floor b d
-floor-mono {a} {b} {d} p h = floor-greatest (floor a d) b p (≤ℚ-trans (floor-≤ a p) (÷-mono-left (natℚ d) (intℚ-mono h)))
-
-ceiling-mono : {a b : ℤ} {d : ℕ} → 0 < d → a ≤ℤ b → ceiling a d ≤ℤ ceiling b d
-ceiling-mono {a} {b} {d} p h = ceiling-least (ceiling b d) a p (≤ℚ-trans (÷-mono-left (natℚ d) (intℚ-mono h)) (ceiling-≥ b p))
 
 -- ---- logarithm and the forwards made from it
 
@@ -225,39 +163,17 @@ forward-inside hl hf κ =
 
 -- ---- the year's step: a quotient falls with its divisor
 
-div-anti : {a b c e : ℕ} → a ≤ b → 0 < c → c ≤ e → a / e ≤ b / c
-div-anti {a} {b} {c} {e} h p k =
-    le-div-iff-mul-le p .1 (le-trans (mul-le-mul-left (a / e) k) (le-trans (div-mul-le-self a e) h))
-
-ceilDiv-covers : (b d : ℕ) → 0 < d → b ≤ ceilDiv b d * d
-ceilDiv-covers b d p = omega (arith, lt-div-mul-add {a = b + (d - 1)} p)
-
-ceilDiv-anti : {a b c e : ℕ} → a ≤ b → 0 < c → c ≤ e → ceilDiv a e ≤ ceilDiv b c
-ceilDiv-anti {a} {b} {c} {e} h p k =
-    ceilDiv-≤ (omega arith) (le-trans h (le-trans (ceilDiv-covers b c p) (mul-le-mul-left (ceilDiv b c) k)))
-
 growthHigh-inside : {y z : ℕ} → y ≤ z → growthHigh y ≤ growthHighWith 1 z
 growthHigh-inside {y} {z} h = omega (arith, growth-mono up-below-up h, added-most 0 y, one-added 0 z)
 
 unit-below : (y : ℕ) → U ≤ growthHighWith 1 y
 unit-below y = le-trans (growthLow-≥ y) (le-trans (growthLow-≤-growthHigh y) (growthHigh-inside (le-refl y)))
 
--- a step down leaves at most what there was, a step up at least
-shrinks : (a : ℕ) {e : ℕ} → U ≤ e → (a * U / e ≤ a) × (ceilDiv (a * U) e ≤ a)
-shrinks a {e} h =
-    let whole = mul-le-mul-left a h in
-    (div-le-of-le-mul e (omega (arith, whole)), ceilDiv-≤ (omega arith) whole)
-
-grows : (a : ℕ) {e : ℕ} → U ≤ e → (a ≤ a * e / U) × (a ≤ ceilDiv (a * e) U)
-grows a {e} h =
-    let whole = mul-le-mul-left a h in
-    (le-div-iff-mul-le U-positive .1 whole, le-div-iff-mul-le U-positive .1 (omega (arith, whole)))
-
 low-step : (f g : ℤ) → f ≤ℤ g → {a b : ℕ} → a ≤ b → stepLowWith 1 g a ≤ stepLow f b
 low-step (pos f) (pos g) h k =
     div-anti (mul-le-mul-right U k) (omega (arith, growthLow-≥ f, growthLow-≤-growthHigh f)) (growthHigh-inside (leb→le f g (h .le)))
 low-step (negsuc f) (pos g) h {a} {b} k =
-    le-trans (shrinks a (unit-below g) .0) (le-trans k (grows b (growthLow-≥ (suc f)) .0))
+    le-trans (shrinks a U-positive (unit-below g) .0) (le-trans k (grows b U-positive (growthLow-≥ (suc f)) .0))
 low-step (pos f) (negsuc g) h k = absurd (h .le)
 low-step (negsuc f) (negsuc g) h k =
     down-below-down .below U (mul-le-mul k (growth-mono down-below-down (suc-le-suc (leb→le g f (h .le)))))
@@ -266,7 +182,7 @@ high-step : (f g : ℤ) → g ≤ℤ f → {a b : ℕ} → a ≤ b → stepHigh 
 high-step (pos f) (pos g) h k =
     ceilDiv-anti (mul-le-mul-right U k) (omega (arith, growthLow-≥ g)) (growth-mono down-below-down (leb→le g f (h .le)))
 high-step (pos f) (negsuc g) h {a} {b} k =
-    le-trans (shrinks a (growthLow-≥ f) .1) (le-trans k (grows b (unit-below (suc g)) .1))
+    le-trans (shrinks a U-positive (growthLow-≥ f) .1) (le-trans k (grows b U-positive (unit-below (suc g)) .1))
 high-step (negsuc f) (pos g) h k = absurd (h .le)
 high-step (negsuc f) (negsuc g) h k = up-below-up .below U (mul-le-mul k (growthHigh-inside (suc-le-suc (leb→le f g (h .le)))))
 

@@ -45,5 +45,6 @@ pub mod Reading
 pub mod InBytes
 pub mod SheetBounds
 pub mod Places
+pub mod Following
 pub mod Inside
 pub mod Unadjusted

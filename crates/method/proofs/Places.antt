@@ -14,11 +14,13 @@ use Rattle.method.specs.Grounds.{Ground, numberOf, placeOf, Outcome, ref
 use Rattle.method.specs.Grounds.{wrongLength, wrongRecord, outOfRange, noVolume, afterToldMonth, beforeStandingCurve, lowBelowOne}
 use Rattle.method.specs.Grounds.{highAboveLimit, endFailsTest, bandTooWide, monthAboveLast, monthBeforeTold}
 use Rattle.method.specs.Grounds.{yearOutside, noCurve, bufferTooShort, ageAboveLimit, noHighRate, noPostLeft}
-use Rattle.method.specs.Sheet.{layoutOf, sizeOf, Slot, slotsOf, firstFailure, rightRecord, inRange, total, Numbers, sheetNumbers, readSheet, maturities}
+use Rattle.method.specs.Sheet.{layoutOf, sizeOf, Slot, slotsOf, firstFailure, rightRecord}
+use Rattle.method.specs.Sheet.{inRange, total, Numbers, sheetNumbers, readSheet, maturities}
 use Rattle.method.specs.Quotes.{annuity, parLow, parHigh, trial, highestFactor, nextYear, quotedYear, insideYears, Bootstrap, gapYears}
 use Rattle.method.specs.Quotes.{Quote, parYear, yearsTo, bootstrapFrom, quotesOf, bootstrap}
 use Rattle.method.specs.Extrapolation.{weights, forward, step, extrapolateWith, extrapolate, steps, adjustedYearsWith, adjustedYears, firstTooWide}
-use Rattle.method.specs.Curve.{usedBy, usedQuotes, factorOf, withinLimit, extendedWith, extended, curveOfWith, curveOf, adjustedCurveWith, adjustedCurve, adjustedIf, curvesOfWith, curvesOf, answerWith, answer, smoothingYear}
+use Rattle.method.specs.Curve.{usedBy, usedQuotes, factorOf, withinLimit, extendedWith, extended, curveOfWith, curveOf}
+use Rattle.method.specs.Curve.{adjustedCurveWith, adjustedCurve, adjustedIf, curvesOfWith, curvesOf, answerWith, answer, smoothingYear}
 use Rattle.method.specs.Ranges.{climbs}
 use Rattle.method.proofs.QuotesLaws.{endsPass, inside, years-cases}
 use Rattle.method.proofs.QuotesBounds.{next-length, inside-length, climbs-more, climbs-within, years-length}

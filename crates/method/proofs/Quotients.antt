@@ -4,7 +4,7 @@ use mathlib.Core.List.{[], _∷_}
 use mathlib.Core.Path.{_≡_, sym, ap, _∙_}
 use Prim.Native.Nat.{ℕ, zero, suc, _+_, _*_, _-_, _/_, _%_, _≤_, _<_}
 use native.Mathlib.Nat.{mul-pos, zero-lt-suc, div-zero, le-div-iff-mul-le, div-lt-iff-lt-mul, div-mul-le-self, le-refl, le-trans}
-use native.Mathlib.Nat.{mul-add-div-right, div-add-mod'}
+use native.Mathlib.Nat.{mul-add-div-right, div-add-mod', mul-le-mul-left, div-le-of-le-mul, lt-div-mul-add}
 use native.Mathlib.Omega.{arith}
 use lib.IntN.{pos}
 use Rattle.fraction.specs.Fraction.{ℚ, _≈_, _≤ℚ_, natℚ, _+ℚ_, _-ℚ_, _*ℚ_, _÷_, recip}
@@ -68,6 +68,29 @@ pub ceilDiv-≤ : {a m d : ℕ} → 0 < d → a ≤ m * d → ceilDiv a d ≤ m
 ceilDiv-≤ {a} {m} {d} h l =
     let next : ceilDiv a d < suc m = div-lt-iff-lt-mul h .1 (omega arith) in
     omega arith
+
+-- up, a quotient covers what was divided
+pub ceilDiv-covers : (a d : ℕ) → 0 < d → a ≤ ceilDiv a d * d
+ceilDiv-covers a d h = omega (arith, lt-div-mul-add {a = a + (d - 1)} h)
+
+-- it falls with its divisor
+pub div-anti : {a b c e : ℕ} → a ≤ b → 0 < c → c ≤ e → a / e ≤ b / c
+div-anti {a} {b} {c} {e} h p k = le-div-iff-mul-le p .1 (le-trans (mul-le-mul-left (a / e) k) (le-trans (div-mul-le-self a e) h))
+
+pub ceilDiv-anti : {a b c e : ℕ} → a ≤ b → 0 < c → c ≤ e → ceilDiv a e ≤ ceilDiv b c
+ceilDiv-anti {a} {b} {c} {e} h p k =
+    ceilDiv-≤ (omega arith) (le-trans h (le-trans (ceilDiv-covers b c p) (mul-le-mul-left (ceilDiv b c) k)))
+
+-- over d and times e, at least d: no more than there was; the other way about, no less
+pub shrinks : (a : ℕ) {d e : ℕ} → 0 < d → d ≤ e → (a * d / e ≤ a) × (ceilDiv (a * d) e ≤ a)
+shrinks a {d} {e} p h =
+    let whole = mul-le-mul-left a h in
+    (div-le-of-le-mul e (omega (arith, whole)), ceilDiv-≤ (omega arith) whole)
+
+pub grows : (a : ℕ) {d e : ℕ} → 0 < d → d ≤ e → (a ≤ a * e / d) × (a ≤ ceilDiv (a * e) d)
+grows a p h =
+    let whole = mul-le-mul-left a h in
+    (le-div-iff-mul-le p .1 whole, le-div-iff-mul-le p .1 (omega (arith, whole)))
 
 -- ---- over any divisor (over 0 the quotient is 0)
 

@@ -13,6 +13,7 @@ use Rattle.method.specs.Series.{logarithmSum, logarithm, G, gapForwardWi
 use Rattle.method.specs.Series.{growthSum, growth, growthLow, growthHigh}
 use Rattle.method.proofs.Quotients.{Below, down-below-up, up-below-up, ceilDiv-≤}
 use Rattle.method.proofs.Slack.{added-most}
+use Rattle.method.proofs.Growth.{growth-mono}
 use Rattle.method.proofs.Logarithm.{distance, logarithmLow, logarithmHigh, G-cases}
 use Rattle.method.specs.Ranges.{growthRange, logarithmBound}
 
@@ -57,16 +58,9 @@ module _ {round : ℕ → ℕ → ℕ} (b : Below round ceilDiv) where
       let z = z-≤ d x h in
       lt-of-le-of-lt (mul-le-mul-left 2 (logarithmSum-mono 5 1 (s-≤ z) z)) (lit< tt)
 
-  growthSum-mono : (k i : ℕ) {y z t u : ℕ} → y ≤ z → t ≤ u → growthSum round y i t k ≤ growthSum ceilDiv z i u k
-  unfolding growthSum
-  growthSum-mono zero i h l = omega arith
-  growthSum-mono (suc k) i h l =
-      let next = b .below (i * U) (mul-le-mul l h) in
-      add-le-add next (growthSum-mono k (suc i) h next)
-
   growth-small : {y : ℕ} → y ≤ 5_000_000 → growth round y < smallGrowth
   unfolding growth growthSum
-  growth-small h = lt-of-le-of-lt (add-le-add (le-refl U) (growthSum-mono 7 1 h (le-refl U))) (lit< tt)
+  growth-small h = lt-of-le-of-lt (growth-mono b h) (lit< tt)
 
 -- ---- E at an adjustment, of either side: e^0.005 is 1,005,012,520.9
 

@@ -1,7 +1,7 @@
 -- Laws of the trial at a yearly factor x: a year more, the order of two trials, and how two trials compare by powers of their x.
 use mathlib.Core.Path.{_≡_, refl}
 use Prim.Native.Nat.{ℕ, zero, suc, _+_, _*_, _-_, _/_, _^_, _≤_, _<_}
-use native.Mathlib.Nat.{div-mul-le-self, lt-div-mul-add, le-of-mul-le-mul-right, lt-of-mul-lt-mul-right, mul-le-mul, mul-le-mul-left}
+use native.Mathlib.Nat.{div-mul-le-self, le-of-mul-le-mul-right, lt-of-mul-lt-mul-right, mul-le-mul, mul-le-mul-left}
 use native.Mathlib.Nat.{mul-le-mul-right, mul-lt-mul-of-pos-left, pow-suc, pow-zero, le-refl, le-trans, lt-of-le-of-lt, add-zero, add-suc}
 use native.Mathlib.Omega.{arith}
 use lib.Dec.{lit<}
@@ -9,6 +9,7 @@ use Rattle.fraction.specs.Rounding.{U, ceilDiv}
 use Rattle.fraction.proofs.Rounding.{U-positive}
 use Rattle.method.specs.Sheet.{total}
 use Rattle.method.specs.Quotes.{trial, lastOf, highestFactor, upperEnd}
+use Rattle.method.proofs.Quotients.{ceilDiv-covers}
 
 -- ---- a year more: the last Tk, times x, is rounded and joins the sum
 
@@ -38,7 +39,7 @@ pub down-≤ : (n : ℕ) → n / U * U ≤ n
 down-≤ n = div-mul-le-self n U
 
 pub up-≥ : (n : ℕ) → n ≤ ceilDiv n U * U
-up-≥ n = omega (arith, lt-div-mul-add {a = n + (U - 1)} {b = U} U-positive)
+up-≥ n = ceilDiv-covers n U U-positive
 
 -- ---- order: a smaller start, a smaller x, a lower rounding
 

@@ -1,7 +1,7 @@
 -- An adjustment of 0 gives the plain curve, digit for digit: growth at 0 is known, so a step of 0 leaves a pair as it is.
 use mathlib.Core.Path.{_≡_, refl, ap, ap₂, _∙_}
 use mathlib.Core.List.{List, [], _∷_}
-use Prim.Native.Nat.{ℕ, zero, suc, _+_, _*_, _/_}
+use Prim.Native.Nat.{ℕ, zero, suc, _+_, _*_}
 use native.Mathlib.Nat.{mul-div-cancel, mul-add-div-right, add-zero}
 use borrow.Author.Tests.{le-leb}
 use lib.IntN.{pos, +ℤ-idr}
