@@ -26,12 +26,14 @@
  * before it, be it none, and the told month remains. Up to three posts can be taken back, one after another; a post where three
  * can be forgets only the oldest way back. Where no post is left to withdraw the answer is 18.
  *
- * This is the interface from the annuity sums (U8) on: bit 1 of a look-up's kind, ignored before, asks for the sum; no function
- * has changed for it, and no record of a journal asks for one. From U7 on a journal's 0x57, an unknown kind before, is a
- * withdrawal; no function has changed for it. From U6 on tuyqorem_look_after and tuyqorem_page_after have the parameter kind, and
- * had not; a look-up's reply has 28 bytes, and had 12 before U3. So a program is compiled with the header of the library that it
- * is linked with. A program leaves the bits of kind that have no meaning at 0, as bit 1 was to be left before. From U5 on a
- * sheet's volume of 0 at 25, 30, 40 or 50 years drops the quote of that maturity; no function has changed for it.
+ * This is the interface from U9 on, as it was: only, where rates, an ultimate rate or an adjustment of 0 make a logarithm or a
+ * growth known, bands are narrower, and a post may be accepted that was turned down on 8 or 10. A sheet that passed passes.
+ * From the annuity sums (U8) on bit 1 of a look-up's kind, ignored before, asks for the sum; no function has changed for it,
+ * and no record of a journal asks for one. From U7 on a journal's 0x57, an unknown kind before, is a withdrawal; no function
+ * has changed for it. From U6 on tuyqorem_look_after and tuyqorem_page_after have the parameter kind, and had not; a look-up's
+ * reply has 28 bytes, and had 12 before U3. So a program is compiled with the header of the library that it is linked with. A
+ * program leaves the bits of kind that have no meaning at 0, as bit 1 was to be left before. From U5 on a sheet's volume of 0
+ * at 25, 30, 40 or 50 years drops the quote of that maturity; no function has changed for it.
  *
  * It is proved of tuyqorem_look_after and tuyqorem_page_after, for every age limit, every journal and every kind: no curve is
  * found exactly when no post of the journal is accepted and not withdrawn or, for the adjusted one, when the last such sheet has
