@@ -20,13 +20,13 @@ use Rattle.method.proofs.QuotesBounds.{bootstrap-bounded}
 use Rattle.method.proofs.Extended.{HighsAtMost}
 use Rattle.method.proofs.Enclosure.{factors-at-most, take-at-most}
 
-abbrev unmoved : SignedPair
+abbrev pub unmoved : SignedPair
 unmoved = signedPair (pos 0) (pos 0)
 
 whole : (a : ℕ) → ceilDiv (a * U) U ≡ a
 whole a = mul-add-div-right U-positive a 999_999_999 ∙ add-zero a
 
-step-stays : (p : Pair) → step unmoved p ≡ p
+pub step-stays : (p : Pair) → step unmoved p ≡ p
 unfolding stepWith growth growthSum added
 step-stays p = ap₂ pair (mul-div-cancel (p .low) U-positive) (whole (p .high))
 
