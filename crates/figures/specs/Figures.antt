@@ -137,15 +137,20 @@ _is_ c s = record { computed = c; stated = s }
 abbrev pub FiguresHold : List Figure → Type 0
 FiguresHold fs = map (λ f. f .computed) fs ≡ map (λ f. map pos (f .stated)) fs
 
--- marked *
-unfoldable pub marked : List Figure
-marked =
-    -- rate 1 at 3,000; rate 2 too; rate 1 at -500
+-- marked *, of quotes: rate 1 at 3,000; rate 2 too; rate 1 at -500
+abbrev pub quoteFigures : List Figure
+quoteFigures =
     (ends (factorsOf (bootstrap (quotesOf (1 ∷ []) (pos 3_000 ∷ [])))) is (970_873_786 ∷ 970_873_787 ∷ []))
     ∷ (ends (factorsOf (bootstrap (quotesOf (1 ∷ 2 ∷ []) (pos 3_000 ∷ pos 3_000 ∷ [])))) is (970_873_786 ∷ 970_873_787 ∷ 942_595_909 ∷ 942_595_910 ∷ []))
     ∷ (ends (factorsOf (bootstrap (quotesOf (1 ∷ []) (negsuc 499 ∷ [])))) is (1_005_025_125 ∷ 1_005_025_126 ∷ []))
+    ∷ []
+
+-- marked *
+unfoldable pub marked : List Figure
+marked =
+    quoteFigures
     -- G(U), E(0), the high of E(1)
-    ∷ (signedEnds (G U) is (0 ∷ 0 ∷ []))
+    ++ (signedEnds (G U) is (0 ∷ 0 ∷ []))
     ∷ (ends (pair (growthLow 0) (growthHigh 0) ∷ []) is (U ∷ U ∷ []))
     ∷ (pos (growthHigh 1) ∷ [] is (1_000_000_008 ∷ []))
     -- the zero sheet: every year, and the smallest limit
@@ -244,11 +249,12 @@ adjustmentFigures =
     ∷ (answerOf (answer (adjustedBy (phased (zeroSheet 100_000) 10_000) 0 ++ 0 ∷ [])) is (1 ∷ 0 ∷ []))
     ∷ []
 
--- those that changed where a known result gains nothing, as document 01 and the adjustment had them
+-- at slack 1: those marked * as document 01 has them, and others that changed where a known result gains nothing
 unfoldable pub earlierFigures : List Figure
 earlierFigures =
+    quoteFigures
     -- G(U), E(0), the high of E(1)
-    (signedEnds (GWith 1 U) is (0 ∷ 1 ∷ []))
+    ++ (signedEnds (GWith 1 U) is (0 ∷ 1 ∷ []))
     ∷ (ends (pair (growthLow 0) (growthHighWith 1 0) ∷ []) is (U ∷ 1_000_000_001 ∷ []))
     ∷ (pos (growthHighWith 1 1) ∷ [] is (1_000_000_008 ∷ []))
     -- the zero sheet: years 1 to 20; 21 and 22; 150; its limit
