@@ -33,13 +33,13 @@ everyQuoteCurve n = do
   years ← extended n (llfr (n .volumes) (map gapForward (drop 2 (b .yearlyFactors)))) (take smoothingYear (b .factors))
   done (curveWith n years)
 
--- before a known logarithm or growth gained nothing: slack 1
+-- before U9, when a known logarithm or growth gained 1 like any other: slack 1
 abbrev pub earlierAnswer : List ℕ → Outcome Curves
 earlierAnswer = answerWith 1
 
 -- ---- bands that lie inside the earlier ones
 
--- in every year: of month and limit as they were
+-- every year's, under the same month and limit
 pub record CurveInside (c earlier : Curve) : Type 0 where
   pub same-month : c .month ≡ earlier .month
   pub same-limit : c .limit ≡ earlier .limit
