@@ -1,6 +1,6 @@
 -- The figures of SPECIFICATION 12, by computation over the definitions.
 use mathlib.Core.Path.{refl}
-use Rattle.figures.specs.Figures.{FiguresHold, marked, others, phaseInFigures, droppedFigures, adjustmentFigures, earlierFigures}
+use Rattle.figures.specs.Figures.{FiguresHold, marked, others, phaseInFigures, droppedFigures, adjustmentFigures, marketFigures, earlierFigures}
 use Rattle.figures.specs.Figures.{rateRecords, volumeRecords, factorsOf, yearsIn, yearsOf, answerOf}
 use Rattle.method.proofs.Computes.{computes}
 
@@ -23,6 +23,10 @@ dropped-figures = refl
 pub adjustment-figures : FiguresHold adjustmentFigures
 unfolding computes rateRecords volumeRecords factorsOf yearsIn yearsOf answerOf adjustmentFigures
 adjustment-figures = refl
+
+pub market-figures : FiguresHold marketFigures
+unfolding computes rateRecords volumeRecords factorsOf yearsIn yearsOf answerOf marketFigures
+market-figures = refl
 
 pub earlier-figures : FiguresHold earlierFigures
 unfolding computes rateRecords volumeRecords factorsOf yearsIn yearsOf answerOf earlierFigures

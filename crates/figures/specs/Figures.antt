@@ -1,4 +1,4 @@
--- SPECIFICATION 12: the figures marked *, those marked +, those of the phase-in, of dropped quotes and of the adjustment, each as one list;
+-- SPECIFICATION 12: the figures marked *, those marked +, those of the phase-in, of dropped quotes, of the adjustment and of the markets, each as one list;
 -- and those that a known logarithm or growth had earlier, at slack 1.
 use mathlib.Core.Path.{_≡_}
 use mathlib.Core.List.{List, [], _∷_, _++_, map}
@@ -9,7 +9,7 @@ use Rattle.fraction.specs.Rounding.{U}
 use Rattle.method.specs.Bytes.{bytes2, bytes4}
 use Rattle.method.specs.Units.{Which, plain, adjusted, Pair, pair, SignedPair}
 use Rattle.method.specs.Grounds.{numberOf, placeOf, Outcome, refused, done}
-use Rattle.method.specs.Sheet.{maturities, volumeMaturities}
+use Rattle.method.specs.Sheet.{maturities}
 use Rattle.method.specs.Quotes.{Bootstrap, bootstrap, quotesOf}
 use Rattle.method.specs.Series.{GWith, G, growthLow, growthHighWith, growthHigh}
 use Rattle.method.specs.Extrapolation.{convergenceFactor, weights}
@@ -28,14 +28,29 @@ volumeRecords [] vs = []
 volumeRecords (m ∷ ms) [] = []
 volumeRecords (m ∷ ms) (v ∷ vs) = 0x03 ∷ m ∷ bytes4 v ++ volumeRecords ms vs
 
--- of any month, rates (16-bit numbers), volumes, ultimate rate and limit
-abbrev pub sheetOf : ℕ → List ℕ → List ℕ → ℕ → ℕ → List ℕ
-sheetOf month rates volumes ufr limit =
+-- of volumes at these maturities, and any month, rates (16-bit numbers), volumes, ultimate rate and limit
+abbrev pub sheetAt : List ℕ → ℕ → List ℕ → List ℕ → ℕ → ℕ → List ℕ
+sheetAt traded month rates volumes ufr limit =
     0x01 ∷ bytes2 month
     ++ rateRecords maturities rates
-    ++ volumeRecords volumeMaturities volumes
+    ++ volumeRecords traded volumes
     ++ 0x04 ∷ bytes2 ufr
     ++ 0x05 ∷ bytes4 limit
+
+-- the euro's
+abbrev pub sheetOf : ℕ → List ℕ → List ℕ → ℕ → ℕ → List ℕ
+sheetOf = sheetAt (20 ∷ 25 ∷ 30 ∷ 40 ∷ 50 ∷ [])
+
+-- a smaller market's: its profile, the smoothing year, the rates and the volume there
+abbrev pub marketSheet : ℕ → ℕ → List ℕ → ℕ → List ℕ
+marketSheet profile year rates volume = 0x08 ∷ profile ∷ sheetAt (year ∷ []) 0 rates (volume ∷ []) 345 100_000
+
+-- profiles 2 and 3, with volume 1
+abbrev pub toTen : List ℕ → List ℕ
+toTen rates = marketSheet 2 10 rates 1
+
+abbrev pub toFifteen : List ℕ → List ℕ
+toFifteen rates = marketSheet 3 15 rates 1
 
 -- the zero sheet with other rates and limit
 abbrev pub sheetWith : List ℕ → ℕ → List ℕ
@@ -247,6 +262,46 @@ adjustmentFigures =
     ∷ (answerOf (answer (phased (adjustedBy (zeroSheet 100_000) 0) 10_000)) is (2 ∷ 26 ∷ []))
     ∷ (answerOf (answer (adjustedBy (zeroSheet 100_000) 0 ++ 0 ∷ [])) is (1 ∷ 0 ∷ []))
     ∷ (answerOf (answer (adjustedBy (phased (zeroSheet 100_000) 10_000) 0 ++ 0 ∷ [])) is (1 ∷ 0 ∷ []))
+    ∷ []
+
+-- 100, 107, .. by 7, twelve of them
+abbrev pub bySevens : List ℕ
+bySevens = 100 ∷ 107 ∷ 114 ∷ 121 ∷ 128 ∷ 135 ∷ 142 ∷ 149 ∷ 156 ∷ 163 ∷ 170 ∷ 177 ∷ []
+
+-- those of the markets
+unfoldable pub marketFigures : List Figure
+marketFigures =
+    -- flat at 3,000: profile 2 in years 10, 11 and 150; profile 3 in years 15, 16 and 150
+    (ends (yearsOf plain 10 2 (answer (toTen (replicate 10 3_000)))) is (744_093_914 ∷ 744_093_916 ∷ 723_334_460 ∷ 723_334_480 ∷ []))
+    ∷ (ends (yearsOf plain 150 1 (answer (toTen (replicate 10 3_000)))) is (353_841_506 ∷ 353_842_578 ∷ []))
+    ∷ (ends (yearsOf plain 15 2 (answer (toFifteen (replicate 12 3_000)))) is (641_861_946 ∷ 641_861_948 ∷ 623_954_660 ∷ 623_954_676 ∷ []))
+    ∷ (ends (yearsOf plain 150 1 (answer (toFifteen (replicate 12 3_000)))) is (310_528_470 ∷ 310_529_388 ∷ []))
+    -- profile 3 with X 20,000: the factor goes by the 15-year rate
+    ∷ (ends (yearsOf plain 16 1 (answer (phased (toFifteen bySevens) 20_000))) is (971_702_115 ∷ 971_702_138 ∷ []))
+    ∷ (ends (yearsOf plain 150 1 (answer (phased (toFifteen bySevens) 20_000))) is (618_168_163 ∷ 618_169_865 ∷ []))
+    -- profile 2, nine rates of 3,000: the tenth at 2,000; at 1,800 and at 5,000, where x lies past an end of the halving
+    ∷ (ends (yearsOf plain 11 1 (answer (toTen (replicate 9 3_000 ++ 2_000 ∷ [])))) is (890_464_081 ∷ 890_464_101 ∷ []))
+    ∷ (answerOf (answer (toTen (replicate 9 3_000 ++ 1_800 ∷ []))) is (9 ∷ 10 ∷ []))
+    ∷ (answerOf (answer (toTen (replicate 9 3_000 ++ 5_000 ∷ []))) is (9 ∷ 10 ∷ []))
+    -- 7 of year 10 is tried before that
+    ∷ (answerOf (answer (toTen (replicate 9 minus2000 ++ 12_000 ∷ []))) is (7 ∷ 10 ∷ []))
+    -- the euro with its record, and without; a lone 08; profiles 4, 0 and 255, however long the sheet
+    ∷ (ends (yearsOf plain 150 1 (answer (0x08 ∷ 0x01 ∷ november))) is (647_775_926 ∷ 647_777_646 ∷ []))
+    ∷ (answerOf (answer (0x08 ∷ [])) is (1 ∷ 0 ∷ []))
+    ∷ (answerOf (answer (0x08 ∷ 0x04 ∷ [])) is (19 ∷ 0 ∷ []))
+    ∷ (answerOf (answer (0x08 ∷ 0x00 ∷ november)) is (19 ∷ 0 ∷ []))
+    ∷ (answerOf (answer (0x08 ∷ 0xFF ∷ 7 ∷ 7 ∷ [])) is (19 ∷ 0 ∷ []))
+    -- places count the profile's record: X of profiles 1, 2 and 3 out of range; an adjustment in its place; one behind it; no volume
+    ∷ (answerOf (answer (0x08 ∷ 0x01 ∷ phased november 9_999)) is (3 ∷ 27 ∷ []))
+    ∷ (answerOf (answer (phased (toTen (replicate 10 3_000)) 9_999)) is (3 ∷ 16 ∷ []))
+    ∷ (answerOf (answer (phased (toFifteen bySevens) 9_999)) is (3 ∷ 18 ∷ []))
+    ∷ (answerOf (answer (adjustedBy (toTen (replicate 10 3_000)) 0)) is (2 ∷ 16 ∷ []))
+    ∷ (answerOf (answer (adjustedBy (toFifteen bySevens) 0)) is (2 ∷ 18 ∷ []))
+    ∷ (answerOf (answer (adjustedBy (phased (toTen (replicate 10 3_000)) 10_000) 0)) is (1 ∷ 0 ∷ []))
+    ∷ (answerOf (answer (marketSheet 2 10 (replicate 10 3_000) 0)) is (4 ∷ 0 ∷ []))
+    -- a volume at another year than the smoothing year's; profile 3's quotes under profile 2
+    ∷ (answerOf (answer (marketSheet 2 15 (replicate 10 3_000) 1)) is (2 ∷ 13 ∷ []))
+    ∷ (answerOf (answer (marketSheet 2 15 bySevens 1)) is (1 ∷ 0 ∷ []))
     ∷ []
 
 -- at slack 1: those marked * as document 01 has them, and others that changed where a known result gains nothing

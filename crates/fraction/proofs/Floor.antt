@@ -4,15 +4,15 @@ use Prim.Native.Nat.{ℕ, zero, suc, _+_, _-_, _/_, _<_}
 use native.Mathlib.Nat.{div-mul-le-self, lt-div-mul-add, zero-div, add-div-right, div-eq-of-lt}
 use native.Mathlib.Omega.{arith}
 use lib.Dec.{le→leb}
-use lib.IntN.{ℤ, pos, negsuc, negℤ}
+use lib.IntN.{ℤ, pos, negsuc, negℤ, _*ℤ_}
 use lib.Signed.{_≤ℤ_}
 use Rattle.fraction.specs.Fraction.{_≈_, _≤ℚ_, _<ℚ_, natℚ, intℚ, negℚ, _+ℚ_, _-ℚ_, _*ℚ_, _÷_}
 use Rattle.fraction.specs.Rounding.{floor, ceiling, ceilDiv}
 use Rattle.fraction.proofs.Order.{≤ℚ-trans, ≤ℚ-<ℚ-trans, <ℚ-≤ℚ-trans, ≤ℚ-≈-trans, ≈-≤ℚ-trans, ≈→≤, ≈→≥, ≈-sym, ≈-trans, ≈-refl}
 use Rattle.fraction.proofs.Sum.{negℚ-anti, negℚ-strict, negℚ-cong, negℚ-negℚ, negℚ-+ℚ, +ℚ-cong}
-use Rattle.fraction.proofs.Product.{negℚ-*ℚ, *ℚ-cong-left}
-use Rattle.fraction.proofs.Integer.{natℚ-positive, intℚ-neg, intℚ-mono}
-use Rattle.fraction.proofs.Quotient.{≤-÷, ÷-<, ÷-mono-left}
+use Rattle.fraction.proofs.Product.{negℚ-*ℚ, *ℚ-comm, *ℚ-cong-left}
+use Rattle.fraction.proofs.Integer.{natℚ-positive, intℚ-pos, intℚ-neg, intℚ-*, intℚ-mono, intℚ-reflects, ≤ℤ-antisym}
+use Rattle.fraction.proofs.Quotient.{≤-÷, ÷-<, ÷-unique, ÷-mono-left}
 
 -- ---- floor
 
@@ -78,6 +78,25 @@ floor-mono {a} {b} {d} p h = floor-greatest (floor a d) b p (≤ℚ-trans (floor
 
 pub ceiling-mono : {a b : ℤ} {d : ℕ} → 0 < d → a ≤ℤ b → ceiling a d ≤ℤ ceiling b d
 ceiling-mono {a} {b} {d} p h = ceiling-least (ceiling b d) a p (≤ℚ-trans (÷-mono-left (natℚ d) (intℚ-mono h)) (ceiling-≥ b p))
+
+-- ---- of a multiple: the number itself
+
+multiple-over : (a : ℤ) {d : ℕ} → 0 < d → intℚ a ≈ intℚ (pos d *ℤ a) ÷ natℚ d
+multiple-over a {d} h =
+    ÷-unique (natℚ-positive h)
+    (≈-trans (*ℚ-comm (intℚ a) (natℚ d)) (≈-trans (*ℚ-cong-left (intℚ a) (≈-sym (intℚ-pos d))) (≈-sym (intℚ-* (pos d) a))))
+
+pub floor-multiple : (a : ℤ) {d : ℕ} → 0 < d → floor (pos d *ℤ a) d ≡ a
+floor-multiple a {d} h =
+    let z = pos d *ℤ a in
+    let over = multiple-over a h in
+    ≤ℤ-antisym (floor z d) a (intℚ-reflects _ a (≤ℚ-trans (floor-≤ z h) (≈→≥ over))) (floor-greatest a z h (≈→≤ over))
+
+pub ceiling-multiple : (a : ℤ) {d : ℕ} → 0 < d → ceiling (pos d *ℤ a) d ≡ a
+ceiling-multiple a {d} h =
+    let z = pos d *ℤ a in
+    let over = multiple-over a h in
+    ≤ℤ-antisym (ceiling z d) a (ceiling-least a z h (≈→≥ over)) (intℚ-reflects a _ (≤ℚ-trans (≈→≤ over) (ceiling-≥ z h)))
 
 -- ---- on naturals
 

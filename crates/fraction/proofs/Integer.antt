@@ -1,5 +1,5 @@
 -- Naturals and integers as fractions: order, sum, product and negation carry over.
-use mathlib.Core.Path.{_≡_, refl}
+use mathlib.Core.Path.{_≡_, refl, ap}
 use mathlib.Core.Bool.{Bool, true, false, not, cond}
 use Prim.Native.Nat.{ℕ, zero, suc, _+_, _*_, _-_, _≤_, _<_}
 use native.Mathlib.Omega.{arith}
@@ -87,6 +87,12 @@ intℚ-reflects a b h = record { le = go a b h }
 
 pub ≤ℤ-trans : {a b c : ℤ} → a ≤ℤ b → b ≤ℤ c → a ≤ℤ c
 ≤ℤ-trans {a} {b} {c} h k = intℚ-reflects a c (≤ℚ-trans (intℚ-mono h) (intℚ-mono k))
+
+pub ≤ℤ-antisym : (a b : ℤ) → a ≤ℤ b → b ≤ℤ a → a ≡ b
+≤ℤ-antisym (pos a) (pos b) h k = ap pos (omega (arith, leb→le a b (h .le), leb→le b a (k .le)))
+≤ℤ-antisym (pos a) (negsuc b) h k = absurd (h .le)
+≤ℤ-antisym (negsuc a) (pos b) h k = absurd (k .le)
+≤ℤ-antisym (negsuc a) (negsuc b) h k = ap negsuc (omega (arith, leb→le b a (h .le), leb→le a b (k .le)))
 
 pub intℚ-reflects-< : (a b : ℤ) → intℚ a <ℚ intℚ b → a <ℤ b
 unfolding intℚ

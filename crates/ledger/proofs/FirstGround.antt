@@ -1,18 +1,18 @@
 -- Demand 1: the result, or the first ground that applies; a refusal changes nothing.
 use mathlib.Core.Path.{_≡_, refl, ap, sym, _∙_}
-use mathlib.Core.Bool.{Bool, true, false, not, _&&_}
+use mathlib.Core.Bool.{Bool, true, false, not, _&&_, _||_}
 use mathlib.Core.List.{List, [], _∷_, _++_}
 use Prim.Native.Nat.{ℕ, zero, suc, _*_}
 use native.Mathlib.Omega.{arith}
 use borrow.Author.Tests.{leb-true, leb-false, le-leb, lt-ltb, le-ltb}
 use lib.Dec.{leb, ltb, eqb, eqb·suc-zero}
-use lib.ListN.{length, drop}
+use lib.ListN.{length, drop, getD}
 use lib.IntN.{pos}
 use Rattle.fraction.specs.Rounding.{U}
-use Rattle.method.specs.Grounds.{Ground, wrongLength, wrongRecord, outOfRange, noVolume, afterToldMonth, beforeStandingCurve, monthAboveLast}
+use Rattle.method.specs.Grounds.{Ground, unknownProfile, wrongLength, wrongRecord, outOfRange, noVolume, afterToldMonth, beforeStandingCurve, monthAboveLast}
 use Rattle.method.specs.Grounds.{monthBeforeTold, yearOutside, noCurve, bufferTooShort, ageAboveLimit, noHighRate, noPostLeft}
 use Rattle.method.specs.Grounds.{Outcome, refused, done, _>>=_, demand}
-use Rattle.method.specs.Sheet.{Numbers, readSheet, sheetNumbers, layoutOf, sizeOf, slotsOf, firstFailure, rightRecord, inRange, total}
+use Rattle.method.specs.Sheet.{Numbers, profileKnown, readSheet, sheetNumbers, layoutOf, sizeOf, slotsOf, firstFailure, rightRecord, inRange, total}
 use Rattle.method.specs.Units.{Which, SignedPair}
 use Rattle.method.specs.Curve.{Curve, Held, none, some, Curves, curvesOf}
 use Rattle.method.specs.Enclosure.{lowOf}
@@ -27,7 +27,7 @@ use Rattle.ledger.specs.History.{wayBack}
 use Rattle.ledger.specs.Book.{Standing, Book, Booked, booked, notBefore, postOutcome, withCurves, post, turnOutcome, withTold, turn}
 use Rattle.ledger.specs.Book.{withHistory, withdraw, named, sumsNamed, openCurve, age, bandAt, lookIn, shown, lookUp, pageOutcome, pagedBy, page}
 use Rattle.ledger.specs.Demands.{Applies, when, first, standsAfter, vacant, tooOld, beyondReach, shownIn, foundIn, monthIn, Demand1}
-use Rattle.ledger.specs.Demands.{postGrounds, turnGrounds, withdrawGrounds, lookGrounds, pageGrounds, turnedTo}
+use Rattle.ledger.specs.Demands.{strangeMarket, lengthsOf, among, postGrounds, turnGrounds, withdrawGrounds, lookGrounds, pageGrounds, turnedTo}
 use Rattle.ledger.proofs.Asked.{refusal-kept, shown-refused, page-refused}
 
 -- a demand in its turn is a ground that applies where its test fails
@@ -36,17 +36,18 @@ demand-first : {A : Type 0} (t : Bool) (g : Ground) (x : Outcome A) (rest : List
 demand-first true g x rest o e = e
 demand-first false g x rest o e = refl
 
--- the four grounds of reading, then what comes after
+-- the five grounds of reading, then what comes after
 read-first :
-    (f : Numbers → Outcome Curves) (n : Numbers) (t1 t2 t3 t4 : Bool) (g1 g2 g3 g4 : Ground) (rest : List Applies) (o : Outcome Curves) →
+    (f : Numbers → Outcome Curves) (n : Numbers) (t0 t1 t2 t3 t4 : Bool) (g0 g1 g2 g3 g4 : Ground) (rest : List Applies) (o : Outcome Curves) →
     f n ≡ first rest o →
-    ((demand t1 g1 >>= (λ _. demand t2 g2 >>= (λ _. demand t3 g3 >>= (λ _. demand t4 g4 >>= (λ _. done n))))) >>= f)
-    ≡ first (when (not t1) g1 ∷ when (not t2) g2 ∷ when (not t3) g3 ∷ when (not t4) g4 ∷ rest) o
-read-first f n true true true true g1 g2 g3 g4 rest o e = e
-read-first f n true true true false g1 g2 g3 g4 rest o e = refl
-read-first f n true true false t4 g1 g2 g3 g4 rest o e = refl
-read-first f n true false t3 t4 g1 g2 g3 g4 rest o e = refl
-read-first f n false t2 t3 t4 g1 g2 g3 g4 rest o e = refl
+    ((demand t0 g0 >>= (λ _. demand t1 g1 >>= (λ _. demand t2 g2 >>= (λ _. demand t3 g3 >>= (λ _. demand t4 g4 >>= (λ _. done n)))))) >>= f)
+    ≡ first (when (not t0) g0 ∷ when (not t1) g1 ∷ when (not t2) g2 ∷ when (not t3) g3 ∷ when (not t4) g4 ∷ rest) o
+read-first f n true true true true true g0 g1 g2 g3 g4 rest o e = e
+read-first f n true true true true false g0 g1 g2 g3 g4 rest o e = refl
+read-first f n true true true false t4 g0 g1 g2 g3 g4 rest o e = refl
+read-first f n true true false t3 t4 g0 g1 g2 g3 g4 rest o e = refl
+read-first f n true false t2 t3 t4 g0 g1 g2 g3 g4 rest o e = refl
+read-first f n false t1 t2 t3 t4 g0 g1 g2 g3 g4 rest o e = refl
 
 -- the tests, and their opposites as the grounds word them
 none-traded : (v : ℕ) → eqb v 0 ≡ not (ltb 0 v)
@@ -64,6 +65,34 @@ no-year : (y : ℕ) → eqb y 0 ≡ not (leb 1 y)
 no-year zero = refl
 no-year (suc y) = eqb·suc-zero y ∙ ap not (sym (le-leb 1 (suc y) (omega arith)))
 
+either-fails : (a b : Bool) → (not a || not b) ≡ not (a && b)
+either-fails true b = refl
+either-fails false b = refl
+
+-- a market that is named and not known, in the definitions' words
+strange : (s : List ℕ) → strangeMarket s ≡ not (profileKnown s)
+strange s = go (eqb (getD s 0 0) 0x08) (ltb 1 (length s)) (getD s 1 0)
+  where
+    go : (named more : Bool) (m : ℕ) → (named && (more && (eqb m 0 || ltb 3 m))) ≡ not (not (named && more) || (leb 1 m && leb m 3))
+    go false more m = refl
+    go true false m = refl
+    go true true m = rw (no-year m, not-at-most 3 m) (either-fails (leb 1 m) (leb m 3))
+
+-- the lengths that a sheet may have
+allowed : (s : List ℕ) → eqb (length s) (sizeOf (layoutOf s)) ≡ among (length s) (lengthsOf s)
+allowed s =
+    any-length s
+    ∙ split (eqb (getD s 0 0) 0x08)
+    (λ t.
+    split (eqb (getD s 1 0) 2)
+    (λ u. rw (t, u) refl)
+    (λ u. split (eqb (getD s 1 0) 3) (λ v. rw (t, u, v) refl) (λ v. rw (t, u, v) (none-more (eqb (length s) 111) (eqb (length s) 114) (eqb (length s) 117)))))
+    (λ t. rw t (none-more (eqb (length s) 109) (eqb (length s) 112) (eqb (length s) 115)))
+  where
+    none-more : (a b c : Bool) → (a || (b || c)) ≡ (a || (b || (c || false)))
+    none-more a b true = refl
+    none-more a b false = refl
+
 outcome-first : (b : Book) (s : List ℕ) → postOutcome b s ≡ first (postGrounds b s) (curvesOf (sheetNumbers s))
 unfolding postOutcome readSheet postGrounds
 outcome-first b s =
@@ -77,14 +106,15 @@ outcome-first b s =
     let three : Applies = when (not (eqb outside 0)) (outOfRange outside) in
     let four : Applies = when (not (ltb 0 (total (n .volumes)))) noVolume in
     let later : List Applies = two ∷ three ∷ four ∷ told ∷ standing ∷ [] in
-    let worked : postOutcome b s ≡ first (when (not (eqb (length s) (sizeOf (layoutOf s)))) wrongLength ∷ later) o =
+    let strangers : Applies = when (not (profileKnown s)) unknownProfile in
+    let worked : postOutcome b s ≡ first (strangers ∷ when (not (eqb (length s) (sizeOf (layoutOf s)))) wrongLength ∷ later) o =
     read-first _ n
-    (eqb (length s) (sizeOf (layoutOf s))) (eqb wrong 0) (eqb outside 0) (ltb 0 (total (n .volumes)))
-    _ _ _ _ (told ∷ standing ∷ []) o
+    (profileKnown s) (eqb (length s) (sizeOf (layoutOf s))) (eqb wrong 0) (eqb outside 0) (ltb 0 (total (n .volumes)))
+    _ _ _ _ _ (told ∷ standing ∷ []) o
     (demand-first (leb (n .month) (b .told)) afterToldMonth _ (standing ∷ []) o
     (demand-first (notBefore (b .standing) (n .month)) beforeStandingCurve o [] o refl)) in
-    rw (none-traded (total (n .volumes)), not-at-most (b .told) (n .month), before-standing (b .standing) (n .month))
-    (worked ∙ ap (λ (right : Bool). first (when (not right) wrongLength ∷ later) o) (any-length s))
+    rw (strange s, none-traded (total (n .volumes)), not-at-most (b .told) (n .month), before-standing (b .standing) (n .month))
+    (worked ∙ ap (λ (right : Bool). first (strangers ∷ when (not right) wrongLength ∷ later) o) (allowed s))
 
 booked-refused : {A B : Type 0} (b : Book) (changed : A → Book) (said : A → B) (o : Outcome A) (g : Ground) →
     booked b changed said o .answer ≡ refused g → booked b changed said o .book ≡ b

@@ -1,25 +1,28 @@
--- A sheet whose length and kinds are right, read by the offsets of its bytes, has the numbers of its records.
-use mathlib.Core.Path.{_≡_, refl, ap, sym, _∙_}
-use mathlib.Core.Bool.{true, false, cond}
-use mathlib.Core.List.{List, [], _∷_, _++_, map, append-assoc}
-use Prim.Native.Nat.{ℕ, suc, _+_, _*_, _≤_, _<_}
+-- A sheet whose length and kinds are right, read by the offsets of its bytes, has the numbers of its records: field by field, each by the slot
+-- that its record stands in, for every layout.
+use mathlib.Core.Path.{_≡_, refl, ap, ap₂, sym, _∙_}
+use mathlib.Core.Bool.{Bool, true, false, cond}
+use mathlib.Core.List.{List, [], _∷_, map}
+use Prim.Native.Nat.{ℕ, zero, suc, _+_, _*_, _-_, _≤_, _<_}
 use native.Mathlib.Numerals.{add-one}
 use native.Mathlib.Omega.{arith}
-use borrow.Author.Tests.{ne-eqb, eqb-true, le-leb, lt-leb, ltb-true, ltb-false}
+use borrow.Author.Tests.{ne-eqb, eqb-true, le-leb, lt-leb, lt-ltb, le-ltb, ltb-true, ltb-false}
 use lib.Dec.{eqb, ltb, leb}
-use lib.IntN.{ℤ, pos, _-ℤ_, +ℤ-idr}
-use lib.ListN.{length, take, drop, getD}
-use lib.Seq.{drop-cons}
+use lib.IntN.{ℤ, pos, natAbs, _-ℤ_, +ℤ-idr}
+use lib.ListN.{length, take, drop, getD, length-map, length-take, length-drop, List·getD-map}
+use lib.Seq.{drop-cons, ext-getD, getD-take, getD-drop}
 use Rattle.method.specs.Bytes.{bigEndian}
-use Rattle.method.specs.Sheet.{Kind, rate, volume, ultimate, limit, phaseIn, adjustment, kindByte, bodyLength, maturities, volumeMaturities}
-use Rattle.method.specs.Sheet.{Entry, entry, firstEntries, optional}
-use Rattle.method.specs.Sheet.{Layout, layoutOf, entriesOf, sizeOf, Slot, slot, slotAt, slotsFrom, slotsOf, twosComplement16, numberOfRecord}
-use Rattle.method.specs.Sheet.{rightRecord, firstFailure, numbersOf, sheetNumbers}
+use Rattle.method.specs.Sheet.{month, rate, volume, adjustment, kindByte, Profile, quoteCount, volumeCount, namesProfile, profileOf}
+use Rattle.method.specs.Sheet.{Layout, layoutOf, sizeOf, Slot, slot, noSlot, slotAt, slotsOf, twosComplement16, numberOfRecord}
+use Rattle.method.specs.Sheet.{rightRecord, firstFailure, monthIndex, rateIndex, volumeIndex, ultimateIndex, Numbers, numbersOf, sheetNumbers}
 use Rattle.method.proofs.Outcome.{split, both-true}
+use Rattle.method.proofs.Entries.{map-at}
 use Rattle.method.proofs.Reading.{firstWrong}
-use Rattle.method.proofs.Slots.{slots-phased, slots-adjusts, phase-in-slot, adjustment-slot, none-fails}
-use Rattle.method.proofs.Layouts.{layout, size-is, named, by-layout}
-use Rattle.ledger.specs.Count.{byte2, byte4, monthOf, limitOf, rateAt, offsets, typed}
+use Rattle.method.proofs.Slots.{leadBytes, rateStart, volumeStart, ultimateStart, lastStart, size-is, slots-least, slots-phased, slots-adjusts}
+use Rattle.method.proofs.Slots.{month-slot, rate-slot, volume-slot, ultimate-slot, limit-slot, phase-in-slot, adjustment-slot, none-fails}
+use Rattle.method.proofs.Layouts.{layoutBy, firstBytes, named, by-layout}
+use Rattle.ledger.specs.Count.{byte2, byte4, marketNumber, ratesOf, volumesOf, marketNamed, monthStart, volumesStart, volumesEnd, limitEnd}
+use Rattle.ledger.specs.Count.{monthOf, limitOf, rateAt, offsets, phaseInOf, hasAdjustment, adjustmentOf, typed}
 
 -- from 32,768 on, 65,536 less
 twos-is : (n : ℕ) → twosComplement16 n ≡ pos n -ℤ pos (cond (leb 32_768 n) 65_536 0)
@@ -28,13 +31,27 @@ twos-is n =
     (λ q. rw (q, lt-leb 32_768 n (ltb-true n 32_768 q)) (sym (+ℤ-idr (pos n))))
     (λ q. rw (q, le-leb 32_768 n (ltb-false n 32_768 q)))
 
-rate-count : length maturities ≡ 17
-unfolding maturities
-rate-count = refl
+-- ---- offsets
 
-volume-count : length volumeMaturities ≡ 5
-unfolding volumeMaturities
-volume-count = refl
+offsets-length : (a d n : ℕ) → length (offsets a d n) ≡ n
+unfolding offsets
+offsets-length a d zero = refl
+offsets-length a d (suc n) = ap suc (offsets-length (a + d) d n)
+
+offsets-at : (a d n i : ℕ) → i < n → getD (offsets a d n) i 0 ≡ a + d * i
+unfolding offsets
+offsets-at a d zero i h = absurd (omega arith)
+offsets-at a d (suc n) zero h = omega arith
+offsets-at a d (suc n) (suc i) h = offsets-at (a + d) d n i (omega arith) ∙ omega arith
+
+-- numbers at equal distances, whatever list they were found in
+at-offsets : {A : Type 0} (e : A) (f : ℕ → A) (a d n : ℕ) (zs : List A) → length zs ≡ n → ((i : ℕ) → i < n → getD zs i e ≡ f (a + d * i)) →
+    zs ≡ map f (offsets a d n)
+at-offsets e f a d n zs long each =
+    ext-getD e zs _ (long ∙ sym (length-map (offsets a d n) f ∙ offsets-length a d n))
+    λ i h.
+    let inside : i < n = rw long at h in
+    each i inside ∙ ap f (sym (offsets-at a d n i inside)) ∙ sym (map-at f (offsets a d n) i 0 e (rw (offsets-length a d n) inside))
 
 -- ---- the bytes of one number
 
@@ -70,41 +87,95 @@ module _ (s : List ℕ) where
       let next : a + 1 + 1 ≡ a + 2 = omega arith in
       rw (behind 4 (a + 1) (omega arith), next, four-at (a + 2) (omega arith))
 
-  -- ---- records of one kind, one after the other
-
-  records-of : (k : Kind) (f : ℕ → ℤ) → ((m a : ℕ) → a + (1 + bodyLength k) ≤ length s → numberOfRecord s (slot k m a) ≡ f (a + 2)) →
-      (ms : List ℕ) (es : List Entry) (a : ℕ) → a + (1 + bodyLength k) * length ms ≤ length s →
-      map (numberOfRecord s) (slotsFrom a (map (entry k) ms ++ es)) ≡
-      map f (offsets (a + 2) (1 + bodyLength k) (length ms)) ++ map (numberOfRecord s) (slotsFrom (a + (1 + bodyLength k) * length ms) es)
-  unfolding slotsFrom offsets
-  records-of k f one [] es a h = ap (λ (i : ℕ). map (numberOfRecord s) (slotsFrom i es)) (omega arith)
-  records-of k f one (m ∷ ms) es a h =
-      let next : a + 1 + bodyLength k + 2 ≡ a + 2 + (1 + bodyLength k) = omega arith in
-      let end : a + 1 + bodyLength k + (1 + bodyLength k) * length ms ≡ a + (1 + bodyLength k) * suc (length ms) = omega arith in
-      rw (one m a (omega arith), records-of k f one ms es (a + 1 + bodyLength k) (omega arith), next, end)
-
   adjustment-number : (a : ℕ) → a + 3 ≤ length s → numberOfRecord s (slot adjustment 0 a) ≡ rateAt s (a + 1)
   adjustment-number a h = rw (two-at (a + 1) (omega arith)) (twos-is (byte2 s (a + 1)))
 
+  -- ---- the numbers of a layout's records, where the bytes reach that far
+
+  module _ (l : Layout) (long : lastStart (l .led) (l .profile) ≤ length s) where
+    abbrev zs : List ℤ
+    zs = map (numberOfRecord s) (slotsOf l)
+
+    number-in : (i : ℕ) (t : Slot) → i < length (slotsOf l) → slotAt l i ≡ t → getD zs i (pos 0) ≡ numberOfRecord s t
+    number-in i t h e = rw (← e) (map-at (numberOfRecord s) (slotsOf l) i noSlot (pos 0) h)
+
+    month-is : natAbs (getD zs (monthIndex l) (pos 0)) ≡ byte2 s (leadBytes (l .led) + 1)
+    month-is =
+        let start = leadBytes (l .led) in
+        ap natAbs (number-in (monthIndex l) _ (omega (arith, slots-least l)) (month-slot l)) ∙ two-at (start + 1) (omega arith)
+
+    rates-are : take (quoteCount (l .profile)) (drop (rateIndex l) zs) ≡ map (rateAt s) (offsets (rateStart (l .led) + 2) 4 (quoteCount (l .profile)))
+    rates-are =
+        at-offsets (pos 0) (rateAt s) (rateStart (l .led) + 2) 4 (quoteCount (l .profile)) _
+        (simp (length-take, length-drop, length-map) (omega (arith, slots-least l)))
+        λ i h.
+        let a = rateStart (l .led) + 4 * i in
+        let here : a + 2 ≡ rateStart (l .led) + 2 + 4 * i = omega arith in
+        getD-take (quoteCount (l .profile)) (drop (rateIndex l) zs) i (pos 0) h ∙ getD-drop (rateIndex l) zs i (pos 0)
+        ∙ number-in (rateIndex l + i) _ (omega (arith, slots-least l)) (rate-slot l i h)
+        ∙ rate-number 0 a (omega arith)
+        ∙ ap (rateAt s) here
+
+    volumes-are :
+        map natAbs (take (volumeCount (l .profile)) (drop (volumeIndex l) zs)) ≡
+        map (byte4 s) (offsets (volumeStart (l .led) (l .profile) + 2) 6 (volumeCount (l .profile)))
+    volumes-are =
+        at-offsets 0 (byte4 s) (volumeStart (l .led) (l .profile) + 2) 6 (volumeCount (l .profile)) _
+        (simp (length-take, length-drop, length-map) (omega (arith, slots-least l)))
+        λ i h.
+        let a = volumeStart (l .led) (l .profile) + 6 * i in
+        let here : a + 2 ≡ volumeStart (l .led) (l .profile) + 2 + 6 * i = omega arith in
+        List·getD-map natAbs (take (volumeCount (l .profile)) (drop (volumeIndex l) zs)) i (pos 0)
+        ∙ ap natAbs
+        (getD-take (volumeCount (l .profile)) (drop (volumeIndex l) zs) i (pos 0) h ∙ getD-drop (volumeIndex l) zs i (pos 0)
+        ∙ number-in (volumeIndex l + i) _ (omega (arith, slots-least l)) (volume-slot l i h)
+        ∙ volume-number 0 a (omega arith))
+        ∙ ap (byte4 s) here
+
+    ultimate-is : natAbs (getD zs (ultimateIndex l) (pos 0)) ≡ byte2 s (ultimateStart (l .led) (l .profile) + 1)
+    ultimate-is =
+        let start = ultimateStart (l .led) (l .profile) in
+        ap natAbs (number-in (ultimateIndex l) _ (omega (arith, slots-least l)) (ultimate-slot l)) ∙ two-at (start + 1) (omega arith)
+
+    limit-is : natAbs (getD zs (ultimateIndex l + 1) (pos 0)) ≡ byte4 s (ultimateStart (l .led) (l .profile) + 4)
+    limit-is =
+        let start = ultimateStart (l .led) (l .profile) in
+        let next : start + 3 + 1 ≡ start + 4 = omega arith in
+        ap natAbs (number-in (ultimateIndex l + 1) _ (omega (arith, slots-least l)) (limit-slot l))
+        ∙ ap (λ (i : ℕ). bigEndian 0 (take 4 (drop i s))) next
+        ∙ four-at (start + 4) (omega arith)
+
+    phase-in-is : l .phased ≡ true → lastStart (l .led) (l .profile) + 3 ≤ length s →
+        natAbs (getD zs (ultimateIndex l + 2) (pos 0)) ≡ byte2 s (lastStart (l .led) (l .profile) + 1)
+    phase-in-is e more =
+        ap natAbs (number-in (ultimateIndex l + 2) _ (omega (arith, slots-phased l e)) (phase-in-slot l e))
+        ∙ two-at (lastStart (l .led) (l .profile) + 1) (omega arith)
+
+    -- the adjustment's record, which is the last, starts at a
+    adjustment-is : (a : ℕ) → l .adjusts ≡ true → lastStart (l .led) (l .profile) + cond (l .phased) 3 0 ≡ a → a + 3 ≤ length s →
+        getD zs (length zs - 1) (pos 0) ≡ rateAt s (a + 1)
+    adjustment-is a e start more =
+        let i : ℕ = ultimateIndex l + 2 + cond (l .phased) 1 0 in
+        let last : length zs - 1 ≡ i = omega (arith, length-map (slotsOf l) (numberOfRecord s), slots-adjusts l e) in
+        ap (λ (k : ℕ). getD zs k (pos 0)) last
+        ∙ number-in i _ (omega (arith, slots-adjusts l e)) (adjustment-slot l e ∙ ap (slot adjustment 0) start)
+        ∙ adjustment-number a more
+
+  -- ---- the market, in the count's words
+
+  lead-is : leadBytes (namesProfile s) ≡ monthStart s
+  lead-is = refl
+
+  market-is : profileOf s ≡ marketNamed (marketNumber s)
+  market-is = split (eqb (getD s 0 0) 0x08) (λ t. rw t refl) (λ t. rw t refl)
+
+  quotes-are : (m : ℕ) → quoteCount (marketNamed m) ≡ ratesOf m
+  quotes-are m = split (eqb m 2) (λ t. rw t refl) (λ t. split (eqb m 3) (λ u. rw (t, u) refl) (λ u. rw (t, u) refl))
+
+  volumes-of : (m : ℕ) → volumeCount (marketNamed m) ≡ volumesOf m
+  volumes-of m = split (eqb m 2) (λ t. rw t refl) (λ t. split (eqb m 3) (λ u. rw (t, u) refl) (λ u. rw (t, u) refl))
+
   -- ---- the sheet
-
-  -- the records after the first 25, where they stand
-  abbrev last : Layout → List Entry
-  last l = optional (l .phased) phaseIn ++ optional (l .adjusts) adjustment
-
-  all-numbers : (l : Layout) → 109 ≤ length s →
-      map (numberOfRecord s) (slotsOf l) ≡
-      pos (monthOf s)
-      ∷ (map (rateAt s) (offsets 5 4 17)
-      ++ (map (λ i. pos (byte4 s i)) (offsets 73 6 5) ++ (pos (byte2 s 102) ∷ pos (limitOf s) ∷ map (numberOfRecord s) (slotsFrom 109 (last l)))))
-  unfolding slotsOf entriesOf firstEntries slotsFrom
-  all-numbers l long =
-      let tail = entry ultimate 0 ∷ entry limit 0 ∷ last l in
-      let rates = records-of rate (rateAt s) rate-number maturities (map (entry volume) volumeMaturities ++ tail) 3 (rw rate-count (omega arith)) in
-      let volumes = records-of volume (λ i. pos (byte4 s i)) volume-number volumeMaturities tail 71 (rw volume-count (omega arith)) in
-      let behind = append-assoc (map (entry rate) maturities ++ map (entry volume) volumeMaturities) (entry ultimate 0 ∷ entry limit 0 ∷ []) (last l) in
-      let apart = append-assoc (map (entry rate) maturities) (map (entry volume) volumeMaturities) tail in
-      rw (two-at 1 (omega arith), behind, apart, rates, rate-count, volumes, volume-count, two-at 102 (omega arith), four-at 105 (omega arith))
 
   -- the kind byte that a slot asks for stands where it starts
   kind-at : (l : Layout) (i : ℕ) (t : Slot) → firstFailure (rightRecord s) 1 (slotsOf l) ≡ 0 → i < length (slotsOf l) → slotAt l i ≡ t →
@@ -113,42 +184,112 @@ module _ (s : List ℕ) where
       let here : rightRecord s t ≡ true = rw (← e) (none-fails (rightRecord s) 0 (slotsOf l) right i h) in
       both-true (eqb (getD s (t .start) 0) (kindByte (t .kind))) _ here .0
 
-  -- hex 07 is not hex 06
-  other-kind : (b : ℕ) → eqb b 0x07 ≡ true → eqb b 0x06 ≡ false
-  other-kind b e = ne-eqb b 0x06 (λ h. omega (arith, eqb-true b 0x07 e, h))
-
   module _ (l : Layout) (right : firstFailure (rightRecord s) 1 (slotsOf l) ≡ 0) where
-    phase-in-named : l .phased ≡ true → eqb (getD s 109 0) 0x06 ≡ true
-    phase-in-named e = kind-at l 25 _ right (omega (arith, slots-phased l e)) (phase-in-slot l e)
+    phase-in-named : l .phased ≡ true → eqb (getD s (lastStart (l .led) (l .profile)) 0) 0x06 ≡ true
+    phase-in-named e = kind-at l (ultimateIndex l + 2) _ right (omega (arith, slots-phased l e)) (phase-in-slot l e)
 
-    adjustment-named : l .adjusts ≡ true → eqb (getD s (109 + cond (l .phased) 3 0) 0) 0x07 ≡ true
-    adjustment-named e = kind-at l (25 + cond (l .phased) 1 0) _ right (omega (arith, slots-adjusts l e)) (adjustment-slot l e)
+    adjustment-named : l .adjusts ≡ true → eqb (getD s (lastStart (l .led) (l .profile) + cond (l .phased) 3 0) 0) 0x07 ≡ true
+    adjustment-named e = kind-at l (ultimateIndex l + 2 + cond (l .phased) 1 0) _ right (omega (arith, slots-adjusts l e)) (adjustment-slot l e)
+
+  -- hex 06 is not hex 07
+  one-kind : (b k m : ℕ) → (k ≡ m → ⊥) → eqb b k ≡ true → eqb b m ≡ false
+  one-kind b k m other e = ne-eqb b m (λ h. other (sym (eqb-true b k e) ∙ h))
 
   abbrev Read : Layout → Type 0
   Read l = length s ≡ sizeOf l → firstFailure (rightRecord s) 1 (slotsOf l) ≡ 0 → numbersOf l (map (numberOfRecord s) (slotsOf l)) ≡ typed s
 
+  abbrev with-all : Profile → ℕ → List ℤ → List ℕ → ℕ → ℕ → ℕ → Bool → ℤ → Numbers
+  with-all p m rs vs u k x adjusts a =
+      record { profile = p; month = m; rates = rs; volumes = vs; ultimate = u; limit = k; phaseIn = x; adjusts = adjusts; adjustment = a }
+
+  same-numbers : {p q : Profile} {m n : ℕ} {rs ts : List ℤ} {vs ws : List ℕ} {u v k j x y : ℕ} {b c : Bool} {a z : ℤ} →
+      p ≡ q → m ≡ n → rs ≡ ts → vs ≡ ws → u ≡ v → k ≡ j → x ≡ y → b ≡ c → a ≡ z → with-all p m rs vs u k x b a ≡ with-all q n ts ws v j y c z
+  same-numbers e1 e2 e3 e4 e5 e6 e7 e8 e9 = cc
+
+  rate-count : quoteCount (profileOf s) ≡ ratesOf (marketNumber s)
+  rate-count = ap (λ (p : Profile). quoteCount p) market-is ∙ quotes-are (marketNumber s)
+
+  volume-count : volumeCount (profileOf s) ≡ volumesOf (marketNumber s)
+  volume-count = ap (λ (p : Profile). volumeCount p) market-is ∙ volumes-of (marketNumber s)
+
+  volumes-start : volumeStart (namesProfile s) (profileOf s) ≡ volumesStart s
+  volumes-start = ap (λ (q : ℕ). monthStart s + 3 + 4 * q) rate-count
+
+  volumes-end : ultimateStart (namesProfile s) (profileOf s) ≡ volumesEnd s
+  volumes-end = omega (arith, volumes-start, volume-count)
+
+  limit-end : firstBytes s ≡ limitEnd s
+  limit-end = ap (λ (n : ℕ). n + 8) volumes-end
+
+  -- all but what follows the limit's record, whatever that is
+  module _ (phased adjusts : Bool) (long : firstBytes s ≤ length s) where
+    abbrev l : Layout
+    l = layoutBy s phased adjusts
+
+    abbrev numbers : Numbers
+    numbers = numbersOf l (map (numberOfRecord s) (slotsOf l))
+
+    rates-typed : numbers .rates ≡ map (rateAt s) (offsets (monthStart s + 5) 4 (ratesOf (marketNumber s)))
+    rates-typed =
+        let start : rateStart (namesProfile s) + 2 ≡ monthStart s + 5 = omega arith in
+        rates-are l long ∙ ap₂ (λ (a n : ℕ). map (rateAt s) (offsets a 4 n)) start rate-count
+
+    volumes-typed : numbers .volumes ≡ map (byte4 s) (offsets (volumesStart s + 2) 6 (volumesOf (marketNumber s)))
+    volumes-typed = volumes-are l long ∙ ap₂ (λ (a n : ℕ). map (byte4 s) (offsets (a + 2) 6 n)) volumes-start volume-count
+
+    ultimate-typed : numbers .ultimate ≡ byte2 s (volumesEnd s + 1)
+    ultimate-typed = ultimate-is l long ∙ ap (λ (a : ℕ). byte2 s (a + 1)) volumes-end
+
+    limit-typed : numbers .limit ≡ limitOf s
+    limit-typed = limit-is l long ∙ ap (λ (a : ℕ). byte4 s (a + 4)) volumes-end
+
+    -- and so are those that follow the limit's record
+    typed-by : numbers .phaseIn ≡ phaseInOf s → adjusts ≡ hasAdjustment s → numbers .adjustment ≡ adjustmentOf s → numbers ≡ typed s
+    unfolding typed
+    typed-by x a z = same-numbers market-is (month-is l long) rates-typed volumes-typed ultimate-typed limit-typed x a z
+
   pub typed-is : length s ≡ sizeOf (layoutOf s) → firstWrong s ≡ 0 → sheetNumbers s ≡ typed s
-  unfolding typed offsets slotsFrom
-  typed-is = by-layout s Read (λ h. neither) (λ h k n. phase-in-last n) (λ h k n. adjustment-alone n) (λ h. both)
+  typed-is = by-layout s Read (λ h. neither) (λ h few. phase-in-last) (λ h few a n. adjustment-alone) (λ h a. both)
     where
-      neither : Read (layout false false)
+      neither : Read (layoutBy s false false)
       neither size right =
-          let e : length s ≡ 109 = size ∙ size-is (layout false false) in
-          rw (all-numbers (layout false false) (omega arith), e)
+          let e : length s ≡ limitEnd s = size ∙ size-is (layoutBy s false false) ∙ omega (arith, limit-end) in
+          let none = le-ltb (limitEnd s) (length s) (omega arith) in
+          typed-by false false (omega (arith, limit-end)) (rw none refl) (rw none refl) (rw none refl)
 
-      phase-in-last : named s ≡ false → Read (layout true false)
-      phase-in-last n size right =
-          let e : length s ≡ 112 = size ∙ size-is (layout true false) in
-          rw (all-numbers (layout true false) (omega arith), two-at 110 (omega arith), e, phase-in-named (layout true false) right refl, n)
+      phase-in-last : Read (layoutBy s true false)
+      phase-in-last size right =
+          let e : length s ≡ limitEnd s + 3 = size ∙ size-is (layoutBy s true false) ∙ omega (arith, limit-end) in
+          let some = lt-ltb (limitEnd s) (length s) (omega arith) in
+          let kind : eqb (getD s (limitEnd s) 0) 0x06 ≡ true = rw limit-end at (phase-in-named (layoutBy s true false) right refl) in
+          let last : length s - 3 ≡ limitEnd s = omega arith in
+          let other = one-kind (getD s (limitEnd s) 0) 0x06 0x07 (λ h. omega arith) kind in
+          let x = phase-in-is (layoutBy s true false) (omega (arith, limit-end)) refl (omega (arith, limit-end)) in
+          typed-by true false (omega (arith, limit-end)) (rw (some, kind) (x ∙ ap (λ (a : ℕ). byte2 s (a + 1)) limit-end))
+          (rw (some, last, other) refl) (rw (some, last, other) refl)
 
-      adjustment-alone : named s ≡ true → Read (layout false true)
-      adjustment-alone n size right =
-          let e : length s ≡ 112 = size ∙ size-is (layout false true) in
-          rw (all-numbers (layout false true) (omega arith), adjustment-number 109 (omega arith), e, n, other-kind (getD s 109 0) n)
+      adjustment-alone : Read (layoutBy s false true)
+      adjustment-alone size right =
+          let e : length s ≡ limitEnd s + 3 = size ∙ size-is (layoutBy s false true) ∙ omega (arith, limit-end) in
+          let some = lt-ltb (limitEnd s) (length s) (omega arith) in
+          let start : firstBytes s + 0 ≡ limitEnd s = omega (arith, limit-end) in
+          let kind : eqb (getD s (limitEnd s) 0) 0x07 ≡ true = rw start at (adjustment-named (layoutBy s false true) right refl) in
+          let last : length s - 3 ≡ limitEnd s = omega arith in
+          let number : length s - 2 ≡ limitEnd s + 1 = omega arith in
+          let other = one-kind (getD s (limitEnd s) 0) 0x07 0x06 (λ h. omega arith) kind in
+          let z = adjustment-is (layoutBy s false true) (omega (arith, limit-end)) (limitEnd s) refl start (omega arith) in
+          typed-by false true (omega (arith, limit-end)) (rw (some, other) refl) (rw (some, last, kind) refl) (rw (some, last, kind, number) z)
 
-      both : Read (layout true true)
+      both : Read (layoutBy s true true)
       both size right =
-          let e : length s ≡ 115 = size ∙ size-is (layout true true) in
-          let first = phase-in-named (layout true true) right refl in
-          let second = adjustment-named (layout true true) right refl in
-          rw (all-numbers (layout true true) (omega arith), two-at 110 (omega arith), adjustment-number 112 (omega arith), e, first, second)
+          let e : length s ≡ limitEnd s + 6 = size ∙ size-is (layoutBy s true true) ∙ omega (arith, limit-end) in
+          let some = lt-ltb (limitEnd s) (length s) (omega arith) in
+          let start : firstBytes s + 3 ≡ limitEnd s + 3 = omega (arith, limit-end) in
+          let first : eqb (getD s (limitEnd s) 0) 0x06 ≡ true = rw limit-end at (phase-in-named (layoutBy s true true) right refl) in
+          let second : eqb (getD s (limitEnd s + 3) 0) 0x07 ≡ true = rw start at (adjustment-named (layoutBy s true true) right refl) in
+          let last : length s - 3 ≡ limitEnd s + 3 = omega arith in
+          let number : length s - 2 ≡ limitEnd s + 3 + 1 = omega arith in
+          let x = phase-in-is (layoutBy s true true) (omega (arith, limit-end)) refl (omega (arith, limit-end)) in
+          let z = adjustment-is (layoutBy s true true) (omega (arith, limit-end)) (limitEnd s + 3) refl start (omega arith) in
+          typed-by true true (omega (arith, limit-end)) (rw (some, first) (x ∙ ap (λ (a : ℕ). byte2 s (a + 1)) limit-end))
+          (rw (some, last, second) refl) (rw (some, last, second, number) z)

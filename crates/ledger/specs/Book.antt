@@ -57,7 +57,7 @@ abbrev pub booked : {A B : Type 0} → Book → (A → Book) → (A → B) → O
 booked b changed said (refused g) = record { book = b; answer = refused g }
 booked b changed said (done a) = record { book = changed a; answer = done (said a) }
 
--- ---- post: 1 to 4, then 5 and 6, then 7 to 10
+-- ---- post: 19 and 1 to 4, then 5 and 6, then 7 to 10
 
 -- not before the standing curves' month; while none stands, any month passes
 abbrev pub notBefore : Standing → ℕ → Bool

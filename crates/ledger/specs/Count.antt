@@ -7,7 +7,7 @@ use lib.IntN.{ℤ, pos, _-ℤ_}
 use lib.ListN.{length, getD, drop}
 use Rattle.method.specs.Units.{Which, plain, adjusted}
 use Rattle.method.specs.Grounds.{Outcome, refused, done}
-use Rattle.method.specs.Sheet.{Numbers}
+use Rattle.method.specs.Sheet.{Profile, euro, fromTen, fromFifteen, Numbers}
 use Rattle.method.specs.Curve.{Held, none, some, answer}
 use Rattle.ledger.specs.Calls.{Call, postOf, turnTo, withdrawal, asks}
 
@@ -19,11 +19,40 @@ byte2 s i = getD s i 0 * 256 + getD s (i + 1) 0
 abbrev pub byte4 : List ℕ → ℕ → ℕ
 byte4 s i = ((getD s i 0 * 256 + getD s (i + 1) 0) * 256 + getD s (i + 2) 0) * 256 + getD s (i + 3) 0
 
+-- the market: the number behind a first byte of hex 08, and 1 where another byte stands first
+abbrev pub marketNumber : List ℕ → ℕ
+marketNumber s = cond (eqb (getD s 0 0) 0x08) (getD s 1 0) 1
+
+-- 2 has ten rates, 3 twelve, each with one volume; 1 has seventeen and five
+abbrev pub ratesOf : ℕ → ℕ
+ratesOf m = cond (eqb m 2) 10 (cond (eqb m 3) 12 17)
+
+abbrev pub volumesOf : ℕ → ℕ
+volumesOf m = cond (eqb m 2) 1 (cond (eqb m 3) 1 5)
+
+abbrev pub marketNamed : ℕ → Profile
+marketNamed m = cond (eqb m 2) fromTen (cond (eqb m 3) fromFifteen euro)
+
+-- the byte at which the month's record starts, behind the market's two where they stand
+abbrev pub monthStart : List ℕ → ℕ
+monthStart s = cond (eqb (getD s 0 0) 0x08) 2 0
+
+-- the one at which the volumes start, behind the month's three and four for each rate; and the one behind six for each volume
+abbrev pub volumesStart : List ℕ → ℕ
+volumesStart s = monthStart s + 3 + 4 * ratesOf (marketNumber s)
+
+abbrev pub volumesEnd : List ℕ → ℕ
+volumesEnd s = volumesStart s + 6 * volumesOf (marketNumber s)
+
+-- the one behind the ultimate rate's three and the limit's five
+abbrev pub limitEnd : List ℕ → ℕ
+limitEnd s = volumesEnd s + 8
+
 abbrev pub monthOf : List ℕ → ℕ
-monthOf s = byte2 s 1
+monthOf s = byte2 s (monthStart s + 1)
 
 abbrev pub limitOf : List ℕ → ℕ
-limitOf s = byte4 s 105
+limitOf s = byte4 s (volumesEnd s + 4)
 
 -- from 32,768 on a rate or an adjustment is 65,536 less
 abbrev pub rateAt : List ℕ → ℕ → ℤ
@@ -34,13 +63,13 @@ unfoldable pub offsets : ℕ → ℕ → ℕ → List ℕ
 offsets i d zero = []
 offsets i d (suc n) = i ∷ offsets (i + d) d n
 
--- X, behind a byte 109 of hex 06; any other sheet counts as 10,000
+-- X, behind a hex 06 that follows the limit; any other sheet counts as 10,000
 abbrev pub phaseInOf : List ℕ → ℕ
-phaseInOf s = cond (ltb 109 (length s) && eqb (getD s 109 0) 0x06) (byte2 s 110) 10_000
+phaseInOf s = cond (ltb (limitEnd s) (length s) && eqb (getD s (limitEnd s) 0) 0x06) (byte2 s (limitEnd s + 1)) 10_000
 
--- the last three bytes are an adjustment's, past the 109 that every sheet has: hex 07 and the number
+-- the last three bytes are an adjustment's, past those that every sheet of its market has: hex 07 and the number
 abbrev pub hasAdjustment : List ℕ → Bool
-hasAdjustment s = ltb 109 (length s) && eqb (getD s (length s - 3) 0) 0x07
+hasAdjustment s = ltb (limitEnd s) (length s) && eqb (getD s (length s - 3) 0) 0x07
 
 abbrev pub adjustmentOf : List ℕ → ℤ
 adjustmentOf s = cond (hasAdjustment s) (rateAt s (length s - 2)) (pos 0)
@@ -50,14 +79,15 @@ abbrev pub carries : Which → List ℕ → Bool
 carries plain s = true
 carries adjusted s = hasAdjustment s
 
--- the month at byte 1; seventeen rates, four bytes apart from 5; five volumes, six apart from 73; the ultimate rate at 102
+-- each rate stands two bytes behind the start of its record, and so does each volume
 unfoldable pub typed : List ℕ → Numbers
 typed s =
     record {
+      profile = marketNamed (marketNumber s);
       month = monthOf s;
-      rates = map (rateAt s) (offsets 5 4 17);
-      volumes = map (byte4 s) (offsets 73 6 5);
-      ultimate = byte2 s 102;
+      rates = map (rateAt s) (offsets (monthStart s + 5) 4 (ratesOf (marketNumber s)));
+      volumes = map (byte4 s) (offsets (volumesStart s + 2) 6 (volumesOf (marketNumber s)));
+      ultimate = byte2 s (volumesEnd s + 1);
       limit = limitOf s;
       phaseIn = phaseInOf s;
       adjusts = hasAdjustment s;
@@ -84,7 +114,7 @@ abbrev pub isDone : {A : Type 0} → Outcome A → Bool
 isDone (refused g) = false
 isDone (done a) = true
 
--- none of 1 to 4 and 7 to 10 applies
+-- none of 19, 1 to 4 and 7 to 10 applies
 abbrev pub works : List ℕ → Bool
 works s = isDone (answer s)
 

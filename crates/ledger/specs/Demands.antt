@@ -1,6 +1,6 @@
 -- SPECIFICATION 8: the three demands, as statements over the definitions.
 use mathlib.Core.Path.{_≡_}
-use mathlib.Core.Bool.{Bool, true, false, not, _||_}
+use mathlib.Core.Bool.{Bool, true, false, cond, not, _&&_, _||_}
 use mathlib.Core.List.{List, [], _∷_, _++_, map}
 use mathlib.Core.Logic.{_⊎_, _↔_}
 use Prim.Native.Nat.{ℕ, _+_, _-_, _≤_, _<_, min}
@@ -9,7 +9,7 @@ use lib.IntN.{pos, _*ℤ_}
 use lib.ListN.{length, getD, take, drop, replicate}
 use lib.Signed.{ltZ}
 use Rattle.method.specs.Units.{Which, Pair, pair, signedPair}
-use Rattle.method.specs.Grounds.{Ground, wrongLength, wrongRecord, outOfRange, noVolume, afterToldMonth, beforeStandingCurve}
+use Rattle.method.specs.Grounds.{Ground, unknownProfile, wrongLength, wrongRecord, outOfRange, noVolume, afterToldMonth, beforeStandingCurve}
 use Rattle.method.specs.Grounds.{monthAboveLast, monthBeforeTold, yearOutside, noCurve, bufferTooShort, ageAboveLimit, noHighRate, noPostLeft}
 use Rattle.method.specs.Grounds.{Outcome, refused, done}
 use Rattle.method.specs.Sheet.{Numbers, readSheet, sheetNumbers, layoutOf, slotsOf, firstFailure, rightRecord, inRange, total}
@@ -158,12 +158,28 @@ abbrev pub beyondReach : Held Curve → ℕ → Bool
 beyondReach none y = false
 beyondReach (some c) y = ltZ (pos (lowOf c y) *ℤ grown false (pos 100_000) y) (pos 1_000_000_000_000_000_000)
 
--- 1 to 6, each by itself; 7 to 10 are the curves' own
+-- hex 08 stands first, and a byte behind it that is none of 1, 2 and 3
+abbrev pub strangeMarket : List ℕ → Bool
+strangeMarket s = eqb (getD s 0 0) 0x08 && (ltb 1 (length s) && (eqb (getD s 1 0) 0 || ltb 3 (getD s 1 0)))
+
+-- 109 bytes, 112 or 115; two more with hex 08 and 1 before them. With 2 for the 1: 59 or 62; with 3: 67 or 70
+abbrev pub lengthsOf : List ℕ → List ℕ
+lengthsOf s =
+    cond (eqb (getD s 0 0) 0x08)
+    (cond (eqb (getD s 1 0) 2) (59 ∷ 62 ∷ []) (cond (eqb (getD s 1 0) 3) (67 ∷ 70 ∷ []) (111 ∷ 114 ∷ 117 ∷ [])))
+    (109 ∷ 112 ∷ 115 ∷ [])
+
+abbrev pub among : ℕ → List ℕ → Bool
+among n [] = false
+among n (k ∷ ks) = eqb n k || among n ks
+
+-- 19 and 1 to 6, each by itself; 7 to 10 are the curves' own
 unfoldable pub postGrounds : Book → List ℕ → List Applies
 postGrounds b s =
     let wrong = firstFailure (rightRecord s) 1 (slotsOf (layoutOf s)) in
     let outside = firstFailure (inRange s) 1 (slotsOf (layoutOf s)) in
-    when (not (eqb (length s) 109 || (eqb (length s) 112 || eqb (length s) 115))) wrongLength
+    when (strangeMarket s) unknownProfile
+    ∷ when (not (among (length s) (lengthsOf s))) wrongLength
     ∷ when (not (eqb wrong 0)) (wrongRecord wrong)
     ∷ when (not (eqb outside 0)) (outOfRange outside)
     ∷ when (eqb (total (sheetNumbers s .volumes)) 0) noVolume
@@ -245,7 +261,7 @@ holding b k h hs = record { ageLimit = b .ageLimit; told = b .told; standing = k
 abbrev pub holdingPost : Book → List ℕ → Curves → Book
 holdingPost b s cs = holding b (some (withSums cs)) (some s) (take 3 (b .history .sheet ∷ b .history .below))
 
--- a sheet that passes 1 to 4, whose month is told and not before the standing one, and whose numbers work
+-- a sheet that passes 19 and 1 to 4, whose month is told and not before the standing one, and whose numbers work
 pub record Accepted (b : Book) (s : List ℕ) (cs : Curves) : Type 0 where
   pub numbers : Numbers
   pub reads : readSheet s ≡ done numbers

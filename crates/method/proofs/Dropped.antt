@@ -8,20 +8,22 @@ use native.Mathlib.Omega.{arith}
 use borrow.Author.Tests.{lt-ltb}
 use lib.Dec.{lit≤, lit<}
 use lib.IntN.{ℤ, pos, _+ℤ_, _*ℤ_, zero-*ℤ}
-use lib.ListN.{length, drop, getD, length-map, length-drop}
+use lib.ListN.{length, drop, getD, length-map}
 use lib.Seq.{getD-drop}
 use Rattle.fraction.specs.Rounding.{U, floor, ceiling}
 use Rattle.method.specs.Units.{Pair, pair, SignedPair, signedPair}
 use Rattle.method.specs.Grounds.{Ground, refused, done}
-use Rattle.method.specs.Sheet.{Numbers, maturities, volumeMaturities, total, readSheet}
+use Rattle.method.specs.Sheet.{quoteCount, smoothingIndex, volumeCount, quotedMaturities, volumeMaturities, Numbers, total, readSheet}
 use Rattle.method.specs.Quotes.{used, kept, Bootstrap, bootstrap}
 use Rattle.method.specs.Series.{gapForward}
 use Rattle.method.specs.Extrapolation.{at, llfrNumerator, llfr}
-use Rattle.method.specs.Curve.{smoothingIndex, usedBy, usedQuotes, spread, gapForwards, factorOf}
+use Rattle.method.specs.Curve.{usedBy, usedQuotes, spread, gapXs, liquidOf, factorOf}
 use Rattle.method.specs.Curve.{extendedWith, curveOfWith, curveOf, adjustedCurveWith, adjustedCurve}
 use Rattle.method.specs.Curve.{adjustedIf, curvesOfWith, curvesOf, answerWith, answer}
 use Rattle.method.proofs.Entries.{map-at}
-use Rattle.method.proofs.Used.{kept-quotes, kept-front, used-to, used-past, spread-length, as-many-marks, gaps-length}
+use Rattle.method.proofs.Slots.{volume-count}
+use Rattle.method.proofs.Used.{kept-quotes, kept-front, used-to, used-past, spread-length, as-many-marks, lengths}
+use Rattle.method.proofs.Stretches.{xs-count}
 
 -- the smoothing year's volume drops no quote: it is a weight of LLFR and nothing else
 pub only-a-weight : (i v w : ℕ) (vs : List ℕ) → used i (v ∷ vs) ≡ used i (w ∷ vs)
@@ -31,6 +33,7 @@ only-a-weight i v w vs = refl
 abbrev pub withRates : Numbers → List ℤ → Numbers
 withRates n rs =
     record {
+      profile = n .profile;
       month = n .month;
       rates = rs;
       volumes = n .volumes;
@@ -41,22 +44,32 @@ withRates n rs =
       adjustment = n .adjustment;
     }
 
--- the 20-year rate is among the used
-smoothing-rate : (vs : List ℕ) (rs : List ℤ) → getD (kept (used smoothingIndex vs) rs) smoothingIndex (pos 0) ≡ getD rs smoothingIndex (pos 0)
+-- the smoothing year's rate is among the used
+smoothing-rate : (i : ℕ) (vs : List ℕ) (rs : List ℤ) → getD (kept (used i vs) rs) i (pos 0) ≡ getD rs i (pos 0)
 unfolding used
-smoothing-rate vs rs = kept-front 13 _ rs smoothingIndex (pos 0) (lit< tt)
+smoothing-rate i vs rs = kept-front (suc i) _ rs i (pos 0) (omega arith)
 
 module _ (n : Numbers) (rs : List ℤ) (same : kept (usedBy n) rs ≡ kept (usedBy n) (n .rates)) where
-  at-20 : getD rs smoothingIndex (pos 0) ≡ getD (n .rates) smoothingIndex (pos 0)
-  at-20 = sym (smoothing-rate (n .volumes) rs) ∙ ap (λ (zs : List ℤ). getD zs smoothingIndex (pos 0)) same ∙ smoothing-rate (n .volumes) (n .rates)
+  abbrev i : ℕ
+  i = smoothingIndex (n .profile)
+
+  same-rate : getD rs i (pos 0) ≡ getD (n .rates) i (pos 0)
+  same-rate =
+      sym (smoothing-rate i (n .volumes) rs) ∙ ap (λ (zs : List ℤ). getD zs i (pos 0)) same ∙ smoothing-rate i (n .volumes) (n .rates)
+
+  same-liquid : liquidOf (withRates n rs) ≡ liquidOf n
+  unfolding liquidOf
+  same-liquid =
+      let ms = quotedMaturities (n .profile) in
+      rw (kept-quotes (usedBy n) ms rs, kept-quotes (usedBy n) ms (n .rates), same) refl
 
   same-plain : curveOf (withRates n rs) ≡ curveOf n
   unfolding curveOfWith extendedWith factorOf
-  same-plain = rw (kept-quotes (usedBy n) maturities rs, kept-quotes (usedBy n) maturities (n .rates), same, at-20) refl
+  same-plain = rw (same-liquid, same-rate) refl
 
   same-adjusted : adjustedCurve (withRates n rs) ≡ adjustedCurve n
   unfolding adjustedCurveWith extendedWith factorOf
-  same-adjusted = rw (kept-quotes (usedBy n) maturities rs, kept-quotes (usedBy n) maturities (n .rates), same, at-20) refl
+  same-adjusted = rw (same-liquid, same-rate) refl
 
   -- rates that agree on the used quotes give the same curves, or the same refusal: a dropped quote has no say
   pub no-say : curvesOf (withRates n rs) ≡ curvesOf n
@@ -67,7 +80,7 @@ module _ (n : Numbers) (rs : List ℤ) (same : kept (usedBy n) rs ≡ kept (used
       same-if true = rw same-adjusted
       same-if false = refl
 
--- but it is read: whatever the volumes, a sheet that fails one of 1 to 4 is turned down on it
+-- but it is read: whatever the volumes, a sheet that fails one of 19 and 1 to 4 is turned down on it
 pub still-tested : (s : List ℕ) {g : Ground} → readSheet s ≡ refused g → answer s ≡ refused g
 unfolding answerWith
 still-tested s e = rw e refl
@@ -122,42 +135,50 @@ numerator-same vs gs hs same =
     to40 j l k h = ap₂ plus (to30 j (omega arith) k h) (ap (λ (z : ℤ). pos 2 *ℤ z) (same 3 j l k h))
 
 -- a volume above 0 marks its quote
-marked : (vs : List ℕ) (j : ℕ) → 0 < getD vs j 0 → getD (drop smoothingIndex (used smoothingIndex vs)) j false ≡ true
-marked vs zero h = getD-drop smoothingIndex (used smoothingIndex vs) 0 false ∙ used-to smoothingIndex vs smoothingIndex (lit≤ tt)
-marked vs (suc j) h =
-    getD-drop smoothingIndex (used smoothingIndex vs) (suc j) false
-    ∙ ap (λ (k : ℕ). getD (used smoothingIndex vs) k false) (omega arith)
-    ∙ used-past smoothingIndex vs j
-    ∙ lt-ltb 0 _ (rw (← one-plus j) at h)
-  where
-    one-plus : (j : ℕ) → 1 + j ≡ suc j
-    one-plus j = omega arith
+marked : (i : ℕ) (vs : List ℕ) (j : ℕ) → 0 < getD vs j 0 → getD (drop i (used i vs)) j false ≡ true
+marked i vs zero h = getD-drop i (used i vs) 0 false ∙ ap (λ (k : ℕ). getD (used i vs) k false) (omega arith) ∙ used-to i vs i (omega arith)
+marked i vs (suc j) h =
+    let next : i + suc j ≡ suc i + j = omega arith in
+    let one : 1 + j ≡ suc j = omega arith in
+    getD-drop i (used i vs) (suc j) false ∙ ap (λ (k : ℕ). getD (used i vs) k false) next ∙ used-past i vs j ∙ lt-ltb 0 _ (rw (← one) at h)
 
-module _ (n : Numbers) {b : Bootstrap} (d : bootstrap (usedQuotes n) ≡ done b) (seventeen : length (n .rates) ≡ 17) (five : length (n .volumes) ≡ 5) where
+-- and it is among those that the market has
+among : (vs : List ℕ) (j : ℕ) → 0 < getD vs j 0 → j < length vs
+among [] j h = absurd (omega arith)
+among (v ∷ vs) zero h = omega arith
+among (v ∷ vs) (suc j) h = omega (arith, among vs j h)
+
+module _ (n : Numbers) {b : Bootstrap} (d : bootstrap (usedQuotes n) ≡ done b) {xs : List Pair} (gaps : gapXs (n .profile) b ≡ done xs)
+    (quotes : length (n .rates) ≡ quoteCount (n .profile)) (volumes : length (n .volumes) ≡ volumeCount (n .profile)) where
+  abbrev us : List Bool
+  us = drop (smoothingIndex (n .profile)) (usedBy n)
+
   -- the x of the stretches, with p where there is no gap
   abbrev filled : Pair → List Pair
-  filled p = spread p (drop smoothingIndex (usedBy n)) (drop 2 (b .yearlyFactors))
+  filled p = spread p us xs
 
-  filled-five : (p : Pair) → length (filled p) ≡ 5
-  unfolding volumeMaturities
-  filled-five p = spread-length p (drop smoothingIndex (usedBy n)) _ ∙ as-many-marks (n .volumes) five
+  filled-count : (p : Pair) → length (filled p) ≡ volumeCount (n .profile)
+  filled-count p = spread-length p us xs ∙ as-many-marks (n .profile) (n .volumes) volumes ∙ volume-count (n .profile)
 
   module _ (f : SignedPair → ℤ) (p q : Pair) where
-    forward-at : (p : Pair) (i : ℕ) → i < 5 → getD (map f (map gapForward (filled p))) i (pos 0) ≡ f (gapForward (getD (filled p) i (pair 0 0)))
+    forward-at : (p : Pair) (i : ℕ) → i < volumeCount (n .profile) →
+        getD (map f (map gapForward (filled p))) i (pos 0) ≡ f (gapForward (getD (filled p) i (pair 0 0)))
     forward-at p i h =
-        map-at f (map gapForward (filled p)) i (signedPair (pos 0) (pos 0)) (pos 0) (omega (arith, length-map (filled p) gapForward, filled-five p))
-        ∙ ap f (map-at gapForward (filled p) i (pair 0 0) (signedPair (pos 0) (pos 0)) (omega (arith, filled-five p)))
+        map-at f (map gapForward (filled p)) i (signedPair (pos 0) (pos 0)) (pos 0) (omega (arith, length-map (filled p) gapForward, filled-count p))
+        ∙ ap f (map-at gapForward (filled p) i (pair 0 0) (signedPair (pos 0) (pos 0)) (omega (arith, filled-count p)))
 
     same-numerator : llfrNumerator (n .volumes) (map f (map gapForward (filled p))) ≡ llfrNumerator (n .volumes) (map f (map gapForward (filled q)))
     same-numerator =
         numerator-same (n .volumes) _ _
         λ i j h k v.
-        let us = drop smoothingIndex (usedBy n) in
-        let gaps = length-drop 2 (b .yearlyFactors) ∙ omega (arith, gaps-length n d seventeen) in
-        let agrees = spread-agrees p q (pair 0 0) us volumeMaturities _ (as-many-marks (n .volumes) five) gaps i j h (marked (n .volumes) j v) in
-        forward-at p i (omega arith) ∙ ap (λ (x : Pair). f (gapForward x)) agrees ∙ sym (forward-at q i (omega arith))
+        let inside : i < volumeCount (n .profile) = omega (arith, among (n .volumes) j v, volumes) in
+        let many = xs-count (n .profile) (n .volumes) b volumes (lengths n d quotes .1) gaps in
+        let agrees =
+        spread-agrees p q (pair 0 0) us (volumeMaturities (n .profile)) xs (as-many-marks (n .profile) (n .volumes) volumes) many i j h
+        (marked (smoothingIndex (n .profile)) (n .volumes) j v) in
+        forward-at p i inside ∙ ap (λ (x : Pair). f (gapForward x)) agrees ∙ sym (forward-at q i inside)
 
-  pub no-weight : (p : Pair) → llfr (n .volumes) (map gapForward (filled p)) ≡ llfr (n .volumes) (gapForwards n b)
+  pub no-weight : (p : Pair) → llfr (n .volumes) (map gapForward (filled p)) ≡ llfr (n .volumes) (map gapForward (filled (pair U U)))
   unfolding llfr
   no-weight p =
       ap₂ signedPair

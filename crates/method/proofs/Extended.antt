@@ -17,13 +17,14 @@ use Rattle.fraction.proofs.Quotient.{÷-positive}
 use Rattle.fraction.proofs.Integer.{natℚ-positive}
 use Rattle.method.specs.Units.{Pair, pair, SignedPair}
 use Rattle.method.specs.Grounds.{bandTooWide, done}
-use Rattle.method.specs.Sheet.{Numbers, total}
+use Rattle.method.specs.Sheet.{quoteCount, smoothingIndex, volumeCount, Numbers, total}
 use Rattle.method.specs.Quotes.{lastYear, highestFactor}
 use Rattle.method.specs.Series.{ultimateForward}
 use Rattle.method.specs.Extrapolation.{weights, extrapolate, firstTooWide}
 use Rattle.method.specs.Curve.{factorOf, withinLimit, extendedWith, extended}
-use Rattle.method.specs.True.{speed, convergence, toLastYear}
+use Rattle.method.specs.True.{speed, convergence, smoothingRate, toLastYear}
 use Rattle.method.proofs.Outcome.{bind-done, demand-done, done-injective}
+use Rattle.method.proofs.Markets.{smoothing-rate}
 use Rattle.method.proofs.Enclosed.{AllEnclosed, enclosed-append, enclosed-length}
 use Rattle.method.proofs.Liquid.{RatesAbove, last-year}
 use Rattle.method.proofs.Logarithm.{ultimateForward-encloses}
@@ -35,11 +36,11 @@ use Rattle.method.proofs.Convergence.{convergence-cong}
 use Rattle.method.proofs.Weights.{hundredMillionths, weighs-cong, weights-weigh, weights-length}
 use Rattle.method.proofs.Speed.{factor-range, factor-is}
 
--- what the enclosure asks of a sheet's numbers; grounds 1 to 4 see to it
+-- what the enclosure asks of a sheet's numbers; grounds 19 and 1 to 4 see to it
 pub record Usable (s : Numbers) : Type 0 where
-  pub rate-count : length (s .rates) ≡ 17
+  pub rate-count : length (s .rates) ≡ quoteCount (s .profile)
   pub rates-above : RatesAbove (s .rates)
-  pub volume-count : length (s .volumes) ≡ 5
+  pub volume-count : length (s .volumes) ≡ volumeCount (s .profile)
   pub traded : 0 < total (s .volumes)
   pub ultimate-most : s .ultimate ≤ 10_000
   pub phase-in-least : 10_000 ≤ s .phaseIn
@@ -83,9 +84,9 @@ ultimate-within u h =
 
 -- the sheet's α is its factor
 α-is : (s : Numbers) → Usable s →
-    speed (natℚ (s .phaseIn) ÷ natℚ 100_000) (intℚ (getD (s .rates) 12 (pos 0)) ÷ natℚ 100_000) ≈ hundredMillionths (factorOf s)
+    speed (natℚ (s .phaseIn) ÷ natℚ 100_000) (intℚ (smoothingRate s) ÷ natℚ 100_000) ≈ hundredMillionths (factorOf s)
 unfolding factorOf
-α-is s u = factor-is (s .phaseIn) (getD (s .rates) 12 (pos 0)) (u .phase-in-least)
+α-is s u = rw (smoothing-rate s (u .rate-count)) (factor-is (s .phaseIn) _ (u .phase-in-least))
 
 factor-positive : (a : ℕ) → 10_000_000 ≤ a → Positive (hundredMillionths a)
 factor-positive a h = ÷-positive (natℚ-positive (omega arith)) (natℚ-positive (lit< tt))
@@ -109,8 +110,8 @@ extends s f quoted e =
     record { later = ext .0; later-done = ext .1; narrow = eqb-true wide 0 (ten .0); is = done-injective (ten .1) }
 
 module _ (s : Numbers) (u : Usable s) (f : SignedPair) (quoted : List Pair) {years : List Pair} (w : Extends s f quoted years)
-    (short : length quoted ≤ 150) (long : 20 ≤ length quoted) where
-  κ-count : 150 - length quoted ≤ 130
+    (short : length quoted ≤ 150) (long : 10 ≤ length quoted) where
+  κ-count : 150 - length quoted ≤ 140
   κ-count = omega arith
 
   κ-length : length (weights (factorOf s) (150 - length quoted)) ≡ 150 - length quoted
@@ -118,10 +119,10 @@ module _ (s : Numbers) (u : Usable s) (f : SignedPair) (quoted : List Pair) {yea
 
   κ-weigh : (n i : ℕ) → i < length (weights (factorOf s) (150 - length quoted)) →
       Weighs (getD (weights (factorOf s) (150 - length quoted)) i (pair 0 0))
-      (convergence n (speed (natℚ (s .phaseIn) ÷ natℚ 100_000) (intℚ (getD (s .rates) 12 (pos 0)) ÷ natℚ 100_000)) (1 + i))
+      (convergence n (speed (natℚ (s .phaseIn) ÷ natℚ 100_000) (intℚ (smoothingRate s) ÷ natℚ 100_000)) (1 + i))
   unfolding factorOf
   κ-weigh n i h =
-      let range = factor-range (s .phaseIn) (getD (s .rates) 12 (pos 0)) (u .phase-in-most) in
+      let range = factor-range (s .phaseIn) (getD (s .rates) (smoothingIndex (s .profile)) (pos 0)) (u .phase-in-most) in
       let one : 1 + i ≡ suc i = omega arith in
       let same = convergence-cong n (factor-positive (factorOf s) (range .0)) (≈-sym (α-is s u)) (suc i) in
       rw one (weighs-cong same (weights-weigh n (factorOf s) (150 - length quoted) (range .0) (range .1) κ-count i (rw κ-length at h)))

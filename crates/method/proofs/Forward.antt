@@ -4,7 +4,7 @@ use mathlib.Core.Path.{_≡_, ap, subst⁻¹, subst₂, subst₃}
 use mathlib.Core.Bool.{Bool, true, false, not, cond}
 use mathlib.Core.List.{List, [], _∷_}
 use Prim.Native.Nat.{ℕ, zero, suc, _+_, _*_, _-_, _≤_, _<_, suc-le-suc}
-use native.Mathlib.Nat.{mul-pos, le-trans, zero-lt-suc, not-suc-le-zero, le-of-suc-le-suc}
+use native.Mathlib.Nat.{add-zero, mul-pos, le-trans, zero-lt-suc, not-suc-le-zero, le-of-suc-le-suc}
 use native.Mathlib.Omega.{arith}
 use lib.Dec.{T, le→leb, nleb→lt, lit<}
 use lib.IntN.{ℤ, pos, negsuc, _+ℤ_, _*ℤ_, *ℤ-comm, +ℤ-assoc, +ℤ-idr}
@@ -19,6 +19,7 @@ use Rattle.fraction.proofs.Integer.{natℚ-positive, natℚ-reflects, natℚ-+,
 use Rattle.fraction.proofs.Quotient.{*ℚ-recip, ÷-*ℚ, ÷-unique, ÷-cong-left}
 use Rattle.fraction.proofs.Ring.{var, con, ⊖, _⊕_, _⊗_}
 use Rattle.fraction.proofs.RingFraction.{ringℚ}
+use Rattle.fraction.proofs.Floor.{floor-multiple, ceiling-multiple}
 use Rattle.fraction.proofs.Rounding.{U-positive}
 use Rattle.fraction.proofs.Enclosure.{encloses-≈, encloses-+, encloses-times, encloses-÷, Term, lows, highs}
 use Rattle.fraction.proofs.Enclosure.{values, encloses-weighted, nat-below, nat-above, blend-low, blend-high}
@@ -234,6 +235,49 @@ llfr-bound-at vs gs {M} lv lg h k =
     let volumes = spelled-out 0 vs lv in
     subst₂ (λ (v : List ℕ) (g : List SignedPair). Within M (llfr v g)) volumes (spelled-out zeroPair gs lg)
     (llfr-bound _ _ _ _ _ (subst⁻¹ (λ (v : List ℕ). 0 < total v) volumes h) (k 0 (lit< tt)) (k 1 (lit< tt)) (k 2 (lit< tt)) (k 3 (lit< tt)) (k 4 (lit< tt)))
+
+-- ---- one volume: LLFR is the forward just before the smoothing year
+
+one-numerator : (v : ℕ) (a : ℤ) → llfrNumerator (v ∷ []) (a ∷ []) ≡ pos (12 * v) *ℤ a
+unfolding llfrNumerator
+one-numerator v a = simp +ℤ-idr
+
+pub llfr-one : (v : ℕ) → 0 < v → (g : SignedPair) → llfr (v ∷ []) (g ∷ []) ≡ g
+unfolding llfr total
+llfr-one v h g =
+    let d = mul-pos {m = 12} (lit< tt) h in
+    rw (one-numerator v (g .low), one-numerator v (g .high), add-zero v, floor-multiple (g .low) d, ceiling-multiple (g .high) d)
+
+-- its weight is one
+pub true-one : (v : ℕ) → 0 < v → (f : ℚ) → f ≈ lastLiquidForward (v ∷ []) (f ∷ [])
+unfolding lastLiquidForward marketForwards weighted yearsTotal
+true-one v h f =
+    rw (add-zero v)
+    (≈-sym
+    (≈-trans (ringℚ ((natℚ v ÷ natℚ v) ∷ f ∷ []) (var 0 ⊗ var 1 ⊕ con 0) (var 0 ⊗ var 1) tt)
+    (≈-trans (*ℚ-cong-left f (*ℚ-recip (natℚ-positive h))) (one-*ℚ f))))
+
+module _ (vs : List ℕ) (gs : List SignedPair) (lv : length vs ≡ 1) (lg : length gs ≡ 1) (traded : 0 < total vs) where
+  abbrev volume : ℕ
+  volume = getD vs 0 0
+
+  abbrev alone : SignedPair
+  alone = getD gs 0 zeroPair
+
+  one-traded : 0 < volume
+  unfolding total
+  one-traded = let h = subst⁻¹ (λ (v : List ℕ). 0 < total v) (spelled-out 0 vs lv) traded in omega arith
+
+  pub llfr-alone : llfr vs gs ≡ alone
+  llfr-alone =
+      subst₂ (λ (v : List ℕ) (g : List SignedPair). llfr v g ≡ alone) (spelled-out 0 vs lv) (spelled-out zeroPair gs lg) (llfr-one volume one-traded alone)
+
+  pub llfr-encloses-one : (fs : List ℚ) → length fs ≡ 1 → Encloses (alone .low) (alone .high) (getD fs 0 (natℚ 0)) →
+      Encloses (llfr vs gs .low) (llfr vs gs .high) (lastLiquidForward vs fs)
+  llfr-encloses-one fs lf e =
+      rw llfr-alone
+      (subst₂ (λ (v : List ℕ) (x : List ℚ). Encloses (alone .low) (alone .high) (lastLiquidForward v x)) (spelled-out 0 vs lv) (spelled-out (natℚ 0) fs lf)
+      (encloses-≈ (true-one volume one-traded (getD fs 0 (natℚ 0))) e))
 
 -- ---- the year's forward
 

@@ -9,7 +9,7 @@ use native.Mathlib.Omega.{arith}
 use borrow.Author.Tests.{le-leb, leb-true, eqb-true}
 use lib.Dec.{leb, eqb, leb→le, le→leb}
 use lib.IntN.{ℤ, pos, negsuc, negℤ, _+ℤ_}
-use lib.ListN.{take, drop, getD}
+use lib.ListN.{getD}
 use lib.Signed.{leZ, _≤ℤ_, ≤ℤ-refl}
 use Rattle.fraction.specs.Rounding.{U, floor, ceiling, ceilDiv}
 use Rattle.fraction.proofs.Integer.{≤ℤ-trans}
@@ -19,13 +19,13 @@ use Rattle.fraction.proofs.Rounding.{U-positive}
 use Rattle.method.specs.Units.{plain, adjusted, Pair, pair, SignedPair, signedPair}
 use Rattle.method.specs.Grounds.{done}
 use Rattle.method.specs.Sheet.{Numbers, total, readSheet}
-use Rattle.method.specs.Quotes.{highestFactor, Bootstrap, bootstrap, lastYear}
+use Rattle.method.specs.Quotes.{highestFactor, Bootstrap, lastYear}
 use Rattle.method.specs.Series.{added, logarithm, GWith, G, gapForwardWith, gapForward, ultimateForwardWith, ultimateForward}
 use Rattle.method.specs.Series.{growthHigh, growthHighWith}
 use Rattle.method.specs.Extrapolation.{llfrNumerator, llfr, smaller, larger, blend, forward, firstRaised, billionths, firstTooWide}
 use Rattle.method.specs.Extrapolation.{stepLowWith, stepLow, stepHighWith, stepHigh, stepWith, step, stepsWith, steps}
 use Rattle.method.specs.Extrapolation.{extrapolateWith, extrapolate, adjustedYearsWith, adjustedYears}
-use Rattle.method.specs.Curve.{Curve, Held, Curves, smoothingYear, smoothingIndex, usedBy, usedQuotes, spread, gapForwardsWith, gapForwards}
+use Rattle.method.specs.Curve.{Curve, Held, Curves, liquidOf, forwardsWith, forwards}
 use Rattle.method.specs.Curve.{withinLimit, extendedWith, extended, curveWith, curveOfWith, curveOf, adjustedCurveWith, adjustedCurve}
 use Rattle.method.specs.Curve.{adjustedIfWith, adjustedIf, curvesOfWith, curvesOf, answerWith, answer}
 use Rattle.method.specs.Earlier.{earlierAnswer, CurveInside, HeldInside, neither, both, CurvesInside, AcceptedInside}
@@ -257,24 +257,24 @@ curve-inside n k =
     }
 
 module _ (n : Numbers) (traded : 0 < total (n .volumes)) where
-  gaps-inside : (b : Bootstrap) → Pairwise SignedInside (gapForwards n b) (gapForwardsWith 1 n b)
-  gaps-inside b = forwards-inside (spread (pair U U) (drop smoothingIndex (usedBy n)) (drop 2 (b .yearlyFactors)))
+  gaps-inside : (b : Bootstrap) → Pairwise SignedInside (forwards b) (forwardsWith 1 b)
+  gaps-inside b = forwards-inside (b .yearlyFactors)
 
   plain-follows : Follows CurveInside (curveOf n) (curveOfWith 1 n)
   unfolding curveOfWith
   plain-follows =
-      follow-from (bootstrap (usedQuotes n))
+      follow-from (liquidOf n)
       λ b d.
       let llfrs = llfr-inside (n .volumes) traded (gaps-inside b) in
-      follow (extended-follows n llfrs (themselves (take smoothingYear (b .factors)))) (λ ps qs r. gives (curve-inside n r))
+      follow (extended-follows n llfrs (themselves (b .factors))) (λ ps qs r. gives (curve-inside n r))
 
   adjusted-curve-follows : Follows CurveInside (adjustedCurve n) (adjustedCurveWith 1 n)
   unfolding adjustedCurveWith
   adjusted-curve-follows =
-      follow-from (bootstrap (usedQuotes n))
+      follow-from (liquidOf n)
       λ b d.
       let llfrs = llfr-inside (n .volumes) traded (raised-inside (n .adjustment) (gaps-inside b)) in
-      follow (adjusted-follows (n .adjustment) 1 (take smoothingYear (b .factors)))
+      follow (adjusted-follows (n .adjustment) 1 (b .factors))
       (λ ps qs k. follow (extended-follows n llfrs k) (λ us vs r. gives (curve-inside n r)))
 
   held-follows : (adjusts : Bool) → Follows HeldInside (adjustedIf adjusts n) (adjustedIfWith 1 adjusts n)

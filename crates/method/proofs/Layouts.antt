@@ -1,81 +1,109 @@
--- The three lengths that a sheet can have: 109 bytes, 112 with the phase-in's record or the adjustment's, 115 with both.
-use mathlib.Core.Path.{_≡_, refl}
-use mathlib.Core.Bool.{Bool, true, false, cond, not, _&&_, _||_}
+-- The lengths that a sheet can have: the market's own, 3 more with the phase-in's record or, for the euro, the adjustment's, 6 more with both.
+use mathlib.Core.Path.{_≡_, refl, sym, _∙_}
+use mathlib.Core.Bool.{Bool, true, false, false≢true, not, _&&_, _||_}
 use mathlib.Core.List.{List}
-use Prim.Native.Nat.{ℕ, _+_, _≤_}
+use Prim.Native.Nat.{ℕ, _+_, _≤_, _<_}
 use native.Mathlib.Omega.{arith}
 use borrow.Author.Tests.{ne-eqb, ltb-true, ltb-false}
 use lib.Dec.{eqb, ltb}
 use lib.ListN.{length, getD}
-use Rattle.method.specs.Sheet.{maturities, volumeMaturities, total, firstEntries, bytesOf, Layout, layoutOf, entriesOf, sizeOf, sheetNumbers}
+use Rattle.method.specs.Sheet.{Profile, adjustable, Layout, shortest, namesProfile, profileOf, layoutOf, sizeOf, sheetNumbers}
 use Rattle.method.proofs.Outcome.{split}
+use Rattle.method.proofs.Slots.{lastStart, sizeBy, size-is}
 
-abbrev pub layout : Bool → Bool → Layout
-layout phased adjusts = record { phased = phased; adjusts = adjusts }
-
--- three bytes for each of the two records that stands
-abbrev pub sizeBy : Bool → Bool → ℕ
-sizeBy phased adjusts = 109 + cond phased 3 0 + cond adjusts 3 0
-
-pub size-is : (l : Layout) → sizeOf l ≡ sizeBy (l .phased) (l .adjusts)
-unfolding sizeOf entriesOf bytesOf firstEntries total maturities volumeMaturities
-size-is l = go (l .phased) (l .adjusts)
-  where
-    go : (phased adjusts : Bool) → sizeOf (layout phased adjusts) ≡ sizeBy phased adjusts
-    go true true = refl
-    go true false = refl
-    go false true = refl
-    go false false = refl
-
-pub first-bytes : bytesOf firstEntries ≡ 109
-unfolding bytesOf firstEntries total maturities volumeMaturities
-first-bytes = refl
+abbrev pub layout : Bool → Profile → Bool → Bool → Layout
+layout led p phased adjusts = record { led = led; profile = p; phased = phased; adjusts = adjusts }
 
 module _ (s : List ℕ) where
-  -- the kind byte of the 26th record is the adjustment's
-  abbrev pub named : Bool
-  named = eqb (getD s 109 0) 0x07
+  -- the market's own length
+  abbrev pub firstBytes : ℕ
+  firstBytes = lastStart (namesProfile s) (profileOf s)
 
-  pub layout-is : layoutOf s ≡ layout (ltb 109 (length s) && (ltb 112 (length s) || not named)) (ltb 109 (length s) && (ltb 112 (length s) || named))
+  -- the kind byte behind it is the adjustment's
+  abbrev pub named : Bool
+  named = eqb (getD s firstBytes 0) 0x07
+
+  abbrev pub layoutBy : Bool → Bool → Layout
+  layoutBy phased adjusts = layout (namesProfile s) (profileOf s) phased adjusts
+
+  pub layout-is :
+      layoutOf s ≡
+      layoutBy (ltb firstBytes (length s) && (ltb (firstBytes + 3) (length s) || not (adjustable (profileOf s) && named)))
+      (adjustable (profileOf s) && (ltb firstBytes (length s) && (ltb (firstBytes + 3) (length s) || named)))
   unfolding layoutOf
-  layout-is = rw first-bytes refl
+  layout-is =
+      let size : sizeOf (shortest (namesProfile s) (profileOf s)) ≡ firstBytes = size-is (shortest (namesProfile s) (profileOf s)) ∙ omega arith in
+      let next : firstBytes + 1 + 2 ≡ firstBytes + 3 = omega arith in
+      rw (size, next) refl
 
   -- a sheet has an adjustment where its record stands, whatever the number: 0 is one
   pub adjusts-by-record : sheetNumbers s .adjusts ≡ layoutOf s .adjusts
   adjusts-by-record = refl
 
   module _ (P : Layout → Type 0) where
-    -- by the length, and by the 26th kind byte where there is one record more
+    -- by the length, and by the kind byte behind the limit's record where one record more stands; a market without an adjustment has the
+    -- phase-in's there, however long the sheet is
     pub by-layout :
-        (length s ≤ 109 → P (layout false false)) → (110 ≤ length s → length s ≤ 112 → named ≡ false → P (layout true false)) →
-        (110 ≤ length s → length s ≤ 112 → named ≡ true → P (layout false true)) → (113 ≤ length s → P (layout true true)) → P (layoutOf s)
+        (length s ≤ firstBytes → P (layoutBy false false)) →
+        (firstBytes < length s → (adjustable (profileOf s) ≡ true → length s ≤ firstBytes + 3) → P (layoutBy true false)) →
+        (firstBytes < length s → length s ≤ firstBytes + 3 → adjustable (profileOf s) ≡ true → named ≡ true → P (layoutBy false true)) →
+        (firstBytes + 3 < length s → adjustable (profileOf s) ≡ true → P (layoutBy true true)) → P (layoutOf s)
     by-layout neither first second both =
         rw layout-is
-        (split (ltb 109 (length s))
+        (split (adjustable (profileOf s))
+        (λ a.
+        split (ltb firstBytes (length s))
         (λ t.
-        let more = ltb-true 109 (length s) t in
-        split (ltb 112 (length s))
-        (λ u. rw (t, u) (both (ltb-true 112 (length s) u)))
+        let more = ltb-true firstBytes (length s) t in
+        split (ltb (firstBytes + 3) (length s))
+        (λ u. rw (a, t, u) (both (ltb-true (firstBytes + 3) (length s) u) a))
         (λ u.
-        let few = ltb-false 112 (length s) u in
-        split named (λ n. rw (t, u, n) (second more few n)) (λ n. rw (t, u, n) (first more few n))))
-        (λ t. rw t (neither (ltb-false 109 (length s) t))))
+        let few = ltb-false (firstBytes + 3) (length s) u in
+        split named (λ n. rw (a, t, u, n) (second more few a n)) (λ n. rw (a, t, u, n) (first more (λ e. few)))))
+        (λ t. rw (a, t) (neither (ltb-false firstBytes (length s) t))))
+        (λ a.
+        split (ltb firstBytes (length s))
+        (λ t.
+        let alone = first (ltb-true firstBytes (length s) t) (λ e. absurd (false≢true (sym a ∙ e))) in
+        split (ltb (firstBytes + 3) (length s)) (λ u. rw (a, t, u) alone) (λ u. rw (a, t, u) alone))
+        (λ t. rw (a, t) (neither (ltb-false firstBytes (length s) t)))))
 
   -- ground 1's test, in other words
-  pub any-length : eqb (length s) (sizeOf (layoutOf s)) ≡ (eqb (length s) 109 || (eqb (length s) 112 || eqb (length s) 115))
+  pub any-length :
+      eqb (length s) (sizeOf (layoutOf s)) ≡
+      (eqb (length s) firstBytes || (eqb (length s) (firstBytes + 3) || (adjustable (profileOf s) && eqb (length s) (firstBytes + 6))))
   any-length =
-      by-layout (λ l. eqb (length s) (sizeOf l) ≡ (eqb (length s) 109 || (eqb (length s) 112 || eqb (length s) 115)))
-      (λ h. rw (size-is (layout false false), other 112 (λ e. omega arith), other 115 (λ e. omega arith)) (or-none (eqb (length s) 109)))
-      (λ h k n. rw (size-is (layout true false)) (one-more h k))
-      (λ h k n. rw (size-is (layout false true)) (one-more h k))
-      (λ h. rw (size-is (layout true true), other 109 (λ e. omega arith), other 112 (λ e. omega arith)))
+      by-layout
+      (λ l.
+      eqb (length s) (sizeOf l) ≡
+      (eqb (length s) firstBytes || (eqb (length s) (firstBytes + 3) || (adjustable (profileOf s) && eqb (length s) (firstBytes + 6)))))
+      (λ h.
+      rw (size (layoutBy false false) firstBytes (omega arith), other (firstBytes + 3) (λ e. omega arith), other (firstBytes + 6) (λ e. omega arith))
+      (or-none (eqb (length s) firstBytes) (adjustable (profileOf s))))
+      (λ h few. rw (size (layoutBy true false) (firstBytes + 3) (omega arith)) (one-more h few))
+      (λ h few a n. rw (size (layoutBy false true) (firstBytes + 3) (omega arith)) (one-more h (λ e. few)))
+      (λ h a. rw (size (layoutBy true true) (firstBytes + 6) (omega arith), a, other firstBytes (λ e. omega arith), other (firstBytes + 3) (λ e. omega arith)))
     where
+      size : (l : Layout) (n : ℕ) → sizeBy l ≡ n → sizeOf l ≡ n
+      size l n e = size-is l ∙ e
+
       other : (n : ℕ) → (length s ≡ n → ⊥) → eqb (length s) n ≡ false
       other n h = ne-eqb (length s) n h
 
-      or-none : (b : Bool) → b ≡ (b || false)
-      or-none true = refl
-      or-none false = refl
+      or-false : (b : Bool) → b ≡ (b || false)
+      or-false true = refl
+      or-false false = refl
 
-      one-more : 110 ≤ length s → length s ≤ 112 → eqb (length s) 112 ≡ (eqb (length s) 109 || (eqb (length s) 112 || eqb (length s) 115))
-      one-more h k = rw (other 109 (λ e. omega arith), other 115 (λ e. omega arith)) (or-none (eqb (length s) 112))
+      one-more : firstBytes < length s → (adjustable (profileOf s) ≡ true → length s ≤ firstBytes + 3) →
+          eqb (length s) (firstBytes + 3) ≡
+          (eqb (length s) firstBytes || (eqb (length s) (firstBytes + 3) || (adjustable (profileOf s) && eqb (length s) (firstBytes + 6))))
+      one-more h few =
+          rw (other firstBytes (λ e. omega arith))
+          (split (adjustable (profileOf s))
+          (λ a. rw (a, other (firstBytes + 6) (λ e. omega (arith, few a))) (or-false (eqb (length s) (firstBytes + 3))))
+          (λ a. rw a (or-false (eqb (length s) (firstBytes + 3)))))
+
+      or-none : (b a : Bool) → b ≡ (b || (false || (a && false)))
+      or-none true a = refl
+      or-none false true = refl
+      or-none false false = refl

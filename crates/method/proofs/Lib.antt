@@ -3,6 +3,7 @@ pub mod Outcome
 pub mod Holding
 pub mod Enclosed
 pub mod Entries
+pub mod Markets
 pub mod Par
 pub mod Trial
 pub mod Swap
@@ -26,6 +27,7 @@ pub mod Size
 pub mod Forward
 pub mod Step
 pub mod Adjusted
+pub mod Stretches
 pub mod ExtrapolationLaws
 pub mod ForwardExamples
 pub mod TrialLaws
@@ -44,6 +46,7 @@ pub mod SheetExamples
 pub mod Reading
 pub mod InBytes
 pub mod SheetBounds
+pub mod Named
 pub mod Places
 pub mod Following
 pub mod Inside

@@ -1,27 +1,30 @@
--- The place of every refusal is at most 150: a record of 26, a quoted year of 50, or a year of 150.
+-- The place of every refusal is at most 150: a record of 28, a quoted year of 50, or a year of 150.
 use mathlib.Core.Path.{_≡_, refl}
-use mathlib.Core.Bool.{Bool, true, false, cond}
+use mathlib.Core.Bool.{Bool, true, false, cond, _&&_}
 use mathlib.Core.List.{List, [], _∷_, _++_}
 use Prim.Native.Nat.{ℕ, zero, suc, _+_, _*_, _-_, _/_, _≤_, _<_}
 use native.Mathlib.Omega.{arith}
 use lib.Dec.{eqb, leb, ltb}
 use lib.IntN.{ℤ, pos}
-use lib.ListN.{length, take, length-append, length-take}
+use lib.ListN.{length, length-append, length-take}
 use lib.Signed.{leZ}
 use Rattle.fraction.specs.Rounding.{U, ceilDiv}
 use Rattle.method.specs.Units.{Pair, SignedPair}
 use Rattle.method.specs.Grounds.{Ground, numberOf, placeOf, Outcome, refused, done, _>>=_, demand}
-use Rattle.method.specs.Grounds.{wrongLength, wrongRecord, outOfRange, noVolume, afterToldMonth, beforeStandingCurve, lowBelowOne}
+use Rattle.method.specs.Grounds.{unknownProfile, wrongLength, wrongRecord, outOfRange, noVolume, afterToldMonth, beforeStandingCurve, lowBelowOne}
 use Rattle.method.specs.Grounds.{highAboveLimit, endFailsTest, bandTooWide, monthAboveLast, monthBeforeTold}
 use Rattle.method.specs.Grounds.{yearOutside, noCurve, bufferTooShort, ageAboveLimit, noHighRate, noPostLeft}
-use Rattle.method.specs.Sheet.{layoutOf, sizeOf, Slot, slotsOf, firstFailure, rightRecord}
-use Rattle.method.specs.Sheet.{inRange, total, Numbers, sheetNumbers, readSheet, maturities}
-use Rattle.method.specs.Quotes.{annuity, parLow, parHigh, trial, highestFactor, nextYear, quotedYear, insideYears, Bootstrap, gapYears}
+use Rattle.method.specs.Sheet.{profileKnown, layoutOf, sizeOf, Slot, slotsOf, firstFailure, rightRecord}
+use Rattle.method.specs.Sheet.{inRange, total, Numbers, sheetNumbers, readSheet, Profile, euro, fromTen, fromFifteen, quotedMaturities, smoothingYear}
+use Rattle.method.specs.Quotes.{lowerEnd, upperEnd, annuity, parLow, parHigh, trial, highestFactor}
+use Rattle.method.specs.Quotes.{nextYear, quotedYear, insideYears, Bootstrap, gapYears}
 use Rattle.method.specs.Quotes.{Quote, parYear, yearsTo, bootstrapFrom, quotesOf, bootstrap}
 use Rattle.method.specs.Extrapolation.{weights, forward, step, extrapolateWith, extrapolate, steps, adjustedYearsWith, adjustedYears, firstTooWide}
-use Rattle.method.specs.Curve.{usedBy, usedQuotes, factorOf, withinLimit, extendedWith, extended, curveOfWith, curveOf}
-use Rattle.method.specs.Curve.{adjustedCurveWith, adjustedCurve, adjustedIf, curvesOfWith, curvesOf, answerWith, answer, smoothingYear}
+use Rattle.method.specs.Curve.{usedBy, usedQuotes, yearOver, gapXs, liquidOf, factorOf, withinLimit, extendedWith, extended, curveOfWith, curveOf}
+use Rattle.method.specs.Curve.{adjustedCurveWith, adjustedCurve, adjustedIf, curvesOfWith, curvesOf, answerWith, answer}
 use Rattle.method.specs.Ranges.{climbs}
+use Rattle.method.proofs.Outcome.{bind-done, done-injective}
+use Rattle.method.proofs.Markets.{smoothing-most}
 use Rattle.method.proofs.QuotesLaws.{endsPass, inside, years-cases}
 use Rattle.method.proofs.QuotesBounds.{next-length, inside-length, climbs-more, climbs-within, years-length}
 use Rattle.method.proofs.Used.{kept-quotes, usedMaturities, used-climb}
@@ -64,17 +67,18 @@ wide-most limit year [] h = omega arith
 wide-most limit year (p ∷ ps) h =
     cond-most (leb (p .high - p .low) limit) _ year (wide-most limit (year + 1) ps (omega arith)) (omega arith)
 
--- ---- grounds 1 to 4
+-- ---- grounds 19 and 1 to 4
 
-pub read-place : (s : List ℕ) → place (readSheet s) ≤ 27
+pub read-place : (s : List ℕ) → place (readSheet s) ≤ 28
 unfolding readSheet
 read-place s =
     let slots = slotsOf (layoutOf s) in
-    let first : (p : Slot → Bool) → firstFailure p 1 slots ≤ 27 = λ p. failure-most p 1 slots (omega (arith, slots-most (layoutOf s))) in
-    demand-place (eqb (length s) (sizeOf (layoutOf s))) _ _ (omega arith)
+    let first : (p : Slot → Bool) → firstFailure p 1 slots ≤ 28 = λ p. failure-most p 1 slots (omega (arith, slots-most (layoutOf s))) in
+    demand-place (profileKnown s) _ _ (omega arith)
+    (demand-place (eqb (length s) (sizeOf (layoutOf s))) _ _ (omega arith)
     (demand-place (eqb (firstFailure (rightRecord s) 1 slots) 0) _ _ (first (rightRecord s))
     (demand-place (eqb (firstFailure (inRange s) 1 slots) 0) _ _ (first (inRange s))
-    (demand-place (ltb 0 (total (sheetNumbers s .volumes))) _ _ (omega arith) (omega arith))))
+    (demand-place (ltb 0 (total (sheetNumbers s .volumes))) _ _ (omega arith) (omega arith)))))
 
 -- ---- grounds 7, 8 and 9: no year is worked past the maturity of its quote
 
@@ -126,9 +130,33 @@ from-place (m ∷ ms) (r ∷ rs) b climb =
     bind-place (yearsTo q b) _ (years-place q b rises (climbs-within m _ ms later .0))
     λ c e. let (years, gaps) = years-length q b rises e in from-place ms rs c (rw (years, gaps) later)
 
-pub bootstrap-place : (n : Numbers) → place (bootstrap (usedQuotes n)) ≤ 50
+bootstrap-place : (n : Numbers) → place (bootstrap (usedQuotes n)) ≤ 50
 unfolding bootstrap
-bootstrap-place n = rw (kept-quotes (usedBy n) maturities (n .rates)) (from-place (usedMaturities (n .volumes)) _ _ (used-climb (n .volumes)))
+bootstrap-place n =
+    rw (kept-quotes (usedBy n) (quotedMaturities (n .profile)) (n .rates))
+    (from-place (usedMaturities (n .profile) (n .volumes)) _ _ (used-climb (n .volumes) (n .profile)))
+
+xs-place : (p : Profile) (b : Bootstrap) → place (gapXs p b) ≤ 50
+unfolding gapXs
+xs-place euro b = omega arith
+xs-place fromTen b =
+    let x = yearOver (b .factors) (smoothingYear fromTen) in
+    let ends = leb lowerEnd (x .low) && leb (x .high) upperEnd in
+    demand-place ends (endFailsTest (smoothingYear fromTen)) (λ _. done (x ∷ [])) (omega (arith, smoothing-most fromTen)) (omega arith)
+xs-place fromFifteen b = omega arith
+
+pub liquid-place : (n : Numbers) → place (liquidOf n) ≤ 50
+unfolding liquidOf
+liquid-place n =
+    bind-place (bootstrap (usedQuotes n)) _ (bootstrap-place n) λ b d. bind-place (gapXs (n .profile) b) _ (xs-place (n .profile) b) λ xs e. omega arith
+
+-- no more years than the smoothing year
+liquid-short : (n : Numbers) {b : Bootstrap} → liquidOf n ≡ done b → length (b .factors) ≤ 20
+unfolding liquidOf
+liquid-short n e =
+    let boot = bind-done (bootstrap (usedQuotes n)) _ e in
+    let gaps = bind-done (gapXs (n .profile) (boot .0)) _ (boot .2) in
+    rw (← done-injective (gaps .2), length-take) (omega (arith, smoothing-most (n .profile)))
 
 -- ---- ground 8 past the smoothing year, and ground 10
 
@@ -163,22 +191,18 @@ adjusted-years-place a year (p ∷ ps) h =
 curve-place : (n : Numbers) → place (curveOf n) ≤ 150
 unfolding curveOfWith
 curve-place n =
-    bind-place (bootstrap (usedQuotes n)) _ (omega (arith, bootstrap-place n))
-    λ b d.
-    let short : length (take smoothingYear (b .factors)) ≤ 150 = rw length-take (omega arith) in
-    bind-place (extended n _ (take smoothingYear (b .factors))) _ (extended-place n _ (take smoothingYear (b .factors)) short)
-    λ years e. omega arith
+    bind-place (liquidOf n) _ (omega (arith, liquid-place n))
+    λ b d. bind-place (extended n _ (b .factors)) _ (extended-place n _ (b .factors) (omega (arith, liquid-short n d))) λ years e. omega arith
 
 adjusted-place : (n : Numbers) → place (adjustedCurve n) ≤ 150
 unfolding adjustedCurveWith
 adjusted-place n =
-    bind-place (bootstrap (usedQuotes n)) _ (omega (arith, bootstrap-place n))
+    bind-place (liquidOf n) _ (omega (arith, liquid-place n))
     λ b d.
-    let quoted = take smoothingYear (b .factors) in
-    let short : length quoted ≤ 20 = rw length-take (omega arith) in
-    bind-place (adjustedYears (n .adjustment) 1 quoted) _ (adjusted-years-place (n .adjustment) 1 quoted (omega arith))
+    let short = liquid-short n d in
+    bind-place (adjustedYears (n .adjustment) 1 (b .factors)) _ (adjusted-years-place (n .adjustment) 1 (b .factors) (omega arith))
     λ years e.
-    bind-place (extended n _ years) _ (extended-place n _ years (omega (arith, adjusted-length (n .adjustment) 1 quoted e)))
+    bind-place (extended n _ years) _ (extended-place n _ years (omega (arith, adjusted-length (n .adjustment) 1 (b .factors) e)))
     λ all f. omega arith
 
 if-place : (b : Bool) (n : Numbers) → place (adjustedIf b n) ≤ 150
@@ -219,3 +243,4 @@ number-small bufferTooShort = omega arith
 number-small ageAboveLimit = omega arith
 number-small noHighRate = omega arith
 number-small noPostLeft = omega arith
+number-small unknownProfile = omega arith

@@ -7,7 +7,7 @@ use native.Mathlib.Nat.{mul-le-mul, div-zero, zero-lt-suc}
 use native.Mathlib.Omega.{arith}
 use lib.Dec.{T, eqb, leb, ltb, leb→le, le→leb}
 use lib.IntN.{ℤ, pos, negsuc, natAbs}
-use lib.ListN.{length, length-append, drop, getD}
+use lib.ListN.{length, length-append, take, drop, getD}
 use lib.Signed.{leZ, nonNeg, _≤ℤ_, ≤ℤ-refl, leZ-yes}
 use borrow.Author.Tests.{leb-true, ltb-true, eq-eqb, ne-eqb}
 use Rattle.fraction.specs.Fraction.{ℚ, natℚ, intℚ, _-ℚ_, _*ℚ_, _÷_}
@@ -38,6 +38,11 @@ module _ {P : Pair → Type 0} where
   each-at k d none h = absurd (omega arith)
   each-at zero d (more q e) h = q
   each-at (suc k) d (more q e) h = each-at k d e (omega arith)
+
+  pub each-take : {ps : List Pair} (k : ℕ) → Each P ps → Each P (take k ps)
+  each-take zero e = none
+  each-take (suc k) none = none
+  each-take (suc k) (more p e) = more p (each-take k e)
 
   pub each-drop : {ps : List Pair} (k : ℕ) → Each P ps → Each P (drop k ps)
   each-drop zero e = e

@@ -1,6 +1,6 @@
 -- The numbers of a sheet that is read are in their ranges.
 use mathlib.Core.Path.{_≡_, refl, ap, subst, _∙_}
-use mathlib.Core.Bool.{Bool, true, false, cond, _&&_}
+use mathlib.Core.Bool.{Bool, true, false, false≢true, cond, _&&_}
 use mathlib.Core.List.{List, [], _∷_, map}
 use Prim.Native.Nat.{ℕ, zero, suc, _+_, _-_, _*_, _≤_, _<_, zero-le, suc-le-suc}
 use native.Mathlib.Omega.{arith}
@@ -10,11 +10,12 @@ use lib.ListN.{length, take, drop, getD, length-map}
 use lib.Signed.{leZ}
 use borrow.Author.Tests.{leb-true}
 use Rattle.method.specs.Grounds.{done}
-use Rattle.method.specs.Sheet.{adjustment, Layout, layoutOf, Slot, slot, slotsOf, slotAt}
-use Rattle.method.specs.Sheet.{numberOfRecord, inRange, total, Numbers, allNumbers, sheetNumbers, readSheet}
+use Rattle.method.specs.Sheet.{adjustment, Profile, euro, fromTen, fromFifteen, quoteCount, volumeCount, adjustable, profileOf}
+use Rattle.method.specs.Sheet.{Layout, layoutOf, Slot, slot, slotsOf, slotAt, numberOfRecord, inRange, total}
+use Rattle.method.specs.Sheet.{monthIndex, rateIndex, volumeIndex, ultimateIndex, Numbers, allNumbers, sheetNumbers, readSheet}
 use Rattle.method.proofs.Outcome.{both-true}
 use Rattle.method.proofs.Slots.{slots-least, slots-phased, slots-adjusts, month-slot, rate-slot, volume-slot, ultimate-slot, limit-slot}
-use Rattle.method.proofs.Slots.{phase-in-slot, adjustment-slot}
+use Rattle.method.proofs.Slots.{volumes-most, lastStart, phase-in-slot, adjustment-slot}
 use Rattle.method.proofs.Slots.{none-fails, number-at, rates-length, rate-at, volumes-length, volume-at}
 use Rattle.method.proofs.Reading.{firstOutside, read-passes}
 use Rattle.method.specs.Ranges.{RateInRange, NumbersInRange}
@@ -55,19 +56,20 @@ module _ (s : List ℕ) (inside : firstOutside s ≡ 0) where
   in-range : (i : ℕ) (t : Slot) → i < length (slotsOf layout) → slotAt layout i ≡ t → inRange s t ≡ true
   in-range i t h e = rw (← e) (none-fails (inRange s) 0 (slotsOf layout) inside i h)
 
-  -- one of the first 25
-  among : (i : ℕ) → i < 25 → i < length (slotsOf layout)
+  -- one that every sheet of the market has
+  among : (i : ℕ) → i < ultimateIndex layout + 2 → i < length (slotsOf layout)
   among i h = omega (arith, slots-least layout)
 
-  rates-in-range : (i : ℕ) → i < 17 → RateInRange (getD (take 17 (drop 1 (allNumbers s))) i (pos 0))
+  rates-in-range : (i : ℕ) → i < quoteCount (layout .profile) → RateInRange (getD (sheetNumbers s .rates) i (pos 0))
   rates-in-range i h =
       let e = rate-slot layout i h in
-      rw (rate-at s i _ h e) (integer-range _ (in-range (1 + i) _ (among (1 + i) (omega arith)) e))
+      rw (rate-at s i _ h e) (integer-range _ (in-range (rateIndex layout + i) _ (among (rateIndex layout + i) (omega arith)) e))
 
-  volumes-in-range : (i : ℕ) → i < 5 → getD (map natAbs (take 5 (drop 18 (allNumbers s)))) i 0 ≤ 1_000_000
+  volumes-in-range : (i : ℕ) → i < volumeCount (layout .profile) → getD (sheetNumbers s .volumes) i 0 ≤ 1_000_000
   volumes-in-range i h =
       let e = volume-slot layout i h in
-      rw (volume-at s i _ h e) (natural-range 0 _ 1_000_000 (in-range (18 + i) _ (among (18 + i) (omega arith)) e) .1)
+      rw (volume-at s i _ h e)
+      (natural-range 0 _ 1_000_000 (in-range (volumeIndex layout + i) _ (among (volumeIndex layout + i) (omega arith)) e) .1)
 
   -- a number without sign, by its slot
   number-range : (i : ℕ) (t : Slot) (low high : ℕ) → i < length (slotsOf layout) → slotAt layout i ≡ t →
@@ -75,22 +77,24 @@ module _ (s : List ℕ) (inside : firstOutside s ≡ 0) where
       (low ≤ natAbs (getD (allNumbers s) i (pos 0))) × (natAbs (getD (allNumbers s) i (pos 0)) ≤ high)
   number-range i t low high h e range = rw (number-at s i t h e) (range (in-range i t h e))
 
-  month-range : natAbs (getD (allNumbers s) 0 (pos 0)) ≤ 2_399
-  month-range = number-range 0 _ 0 2_399 (among 0 (omega arith)) (month-slot layout) (natural-range 0 _ 2_399) .1
+  month-range : sheetNumbers s .month ≤ 2_399
+  month-range = number-range (monthIndex layout) _ 0 2_399 (among _ (omega arith)) (month-slot layout) (natural-range 0 _ 2_399) .1
 
-  ultimate-range : natAbs (getD (allNumbers s) 23 (pos 0)) ≤ 10_000
-  ultimate-range = number-range 23 _ 0 10_000 (among 23 (omega arith)) (ultimate-slot layout) (natural-range 0 _ 10_000) .1
+  ultimate-range : sheetNumbers s .ultimate ≤ 10_000
+  ultimate-range = number-range (ultimateIndex layout) _ 0 10_000 (among _ (omega arith)) (ultimate-slot layout) (natural-range 0 _ 10_000) .1
 
-  limit-range : (1 ≤ natAbs (getD (allNumbers s) 24 (pos 0))) × (natAbs (getD (allNumbers s) 24 (pos 0)) ≤ 100_000)
-  limit-range = number-range 24 _ 1 100_000 (among 24 (omega arith)) (limit-slot layout) (natural-range 1 _ 100_000)
+  limit-range : (1 ≤ sheetNumbers s .limit) × (sheetNumbers s .limit ≤ 100_000)
+  limit-range = number-range (ultimateIndex layout + 1) _ 1 100_000 (among _ (omega arith)) (limit-slot layout) (natural-range 1 _ 100_000)
 
   -- read where the record stands, 10,000 elsewhere
   phase-in-range : (10_000 ≤ sheetNumbers s .phaseIn) × (sheetNumbers s .phaseIn ≤ 20_000)
   phase-in-range = go (layout .phased) present
     where
-      present : layout .phased ≡ true → (10_000 ≤ natAbs (getD (allNumbers s) 25 (pos 0))) × (natAbs (getD (allNumbers s) 25 (pos 0)) ≤ 20_000)
+      present : layout .phased ≡ true →
+          let x = natAbs (getD (allNumbers s) (ultimateIndex layout + 2) (pos 0)) in (10_000 ≤ x) × (x ≤ 20_000)
       present e =
-          number-range 25 _ 10_000 20_000 (omega (arith, slots-phased layout e)) (phase-in-slot layout e) (natural-range 10_000 _ 20_000)
+          number-range (ultimateIndex layout + 2) _ 10_000 20_000 (omega (arith, slots-phased layout e)) (phase-in-slot layout e)
+          (natural-range 10_000 _ 20_000)
 
       go : {x : ℕ} (phased : Bool) → (phased ≡ true → (10_000 ≤ x) × (x ≤ 20_000)) → (10_000 ≤ cond phased x 10_000) × (cond phased x 10_000 ≤ 20_000)
       go true range = range refl
@@ -102,10 +106,9 @@ module _ (s : List ℕ) (inside : firstOutside s ≡ 0) where
     where
       present : layout .adjusts ≡ true → natAbs (getD (allNumbers s) (length (allNumbers s) - 1) (pos 0)) ≤ 500
       present e =
-          let count : length (allNumbers s) ≡ 26 + cond (layout .phased) 1 0 = length-map (slotsOf layout) (numberOfRecord s) ∙ slots-adjusts layout e in
-          let at : length (allNumbers s) - 1 ≡ 25 + cond (layout .phased) 1 0 = omega arith in
-          let i : ℕ = 25 + cond (layout .phased) 1 0 in
-          let t : Slot = slot adjustment 0 (109 + cond (layout .phased) 3 0) in
+          let i : ℕ = ultimateIndex layout + 2 + cond (layout .phased) 1 0 in
+          let at : length (allNumbers s) - 1 ≡ i = omega (arith, length-map (slotsOf layout) (numberOfRecord s), slots-adjusts layout e) in
+          let t : Slot = slot adjustment 0 (lastStart (layout .led) (layout .profile) + cond (layout .phased) 3 0) in
           let inside : i < length (slotsOf layout) = omega (arith, slots-adjusts layout e) in
           let due = adjustment-slot layout e in
           rw (at, number-at s i t inside due) (adjustment-range (numberOfRecord s t) (in-range i t inside due))
@@ -113,6 +116,16 @@ module _ (s : List ℕ) (inside : firstOutside s ≡ 0) where
       go : (z : ℤ) (adjusts : Bool) → (adjusts ≡ true → natAbs z ≤ 500) → natAbs (cond adjusts z (pos 0)) ≤ 500
       go z true range = range refl
       go z false range = omega arith
+
+  -- no other market has the record
+  adjusted-euro : layout .adjusts ≡ true → layout .profile ≡ euro
+  unfolding layoutOf
+  adjusted-euro e = only-euro (profileOf s) (both-true (adjustable (profileOf s)) _ e .0)
+    where
+      only-euro : (p : Profile) → adjustable p ≡ true → p ≡ euro
+      only-euro euro t = refl
+      only-euro fromTen t = absurd (false≢true t)
+      only-euro fromFifteen t = absurd (false≢true t)
 
   numbers-in-range : 0 < total (sheetNumbers s .volumes) → NumbersInRange (sheetNumbers s)
   numbers-in-range traded =
@@ -126,13 +139,14 @@ module _ (s : List ℕ) (inside : firstOutside s ≡ 0) where
         volume-count = volumes-length s;
         volume-most = volume-most;
         total-least = traded;
-        total-most = omega (arith, total-at-most 1_000_000 (n .volumes) volume-most, ap (λ (k : ℕ). k * 1_000_000) (volumes-length s));
+        total-most = omega (arith, total-at-most 1_000_000 (n .volumes) volume-most, volumes-length s, volumes-most (layout .profile));
         ultimate-most = ultimate-range;
         limit-least = limit-range .0;
         limit-most = limit-range .1;
         phase-in-least = phase-in-range .0;
         phase-in-most = phase-in-range .1;
         adjustment-size = adjustment-most;
+        adjusts-euro = adjusted-euro;
       }
 
 pub read-bounds : (s : List ℕ) (n : Numbers) → readSheet s ≡ done n → NumbersInRange n

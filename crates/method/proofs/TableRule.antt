@@ -202,7 +202,7 @@ decay-ends n =
 
 -- ---- the table
 
-pub table-length : length table ≡ 130
+pub table-length : length table ≡ 140
 unfolding table
 table-length = refl
 
@@ -220,7 +220,7 @@ convergence-at n h =
     let same : suc h - 1 ≡ h = omega arith in
     rw same (*ℚ-cong-left (natℚ 1 -ℚ decay n tenth) (*ℚ-cong-left (powℚ (decay n tenth) h) (≈-sym recip-tenth)))
 
-pub table-rule : (n h : ℕ) → h < 130 →
+pub table-rule : (n h : ℕ) → h < 140 →
     (natℚ (getD table h 0) ≤ℚ billion *ℚ convergence n tenth (suc h)) × (billion *ℚ convergence n tenth (suc h) <ℚ natℚ (getD table h 0 + 1))
 table-rule n h l =
     let w = rule-at decayScale decayLow decayHigh table table-test (decay-ends n) h (rw table-length l) in

@@ -5,20 +5,18 @@ use Prim.Native.Nat.{ℕ, zero, suc, _+_, _*_}
 use native.Mathlib.Nat.{mul-div-cancel, mul-add-div-right, add-zero}
 use borrow.Author.Tests.{le-leb}
 use lib.IntN.{pos, +ℤ-idr}
-use lib.ListN.{take}
 use Rattle.fraction.specs.Rounding.{U, ceilDiv}
 use Rattle.fraction.proofs.Rounding.{U-positive}
 use Rattle.method.specs.Units.{Pair, pair, SignedPair, signedPair}
 use Rattle.method.specs.Grounds.{done}
 use Rattle.method.specs.Sheet.{Numbers}
-use Rattle.method.specs.Quotes.{bootstrap}
 use Rattle.method.specs.Series.{added, growthSum, growth}
 use Rattle.method.specs.Extrapolation.{stepWith, step, stepsWith, steps, adjustedYearsWith, adjustedYears, firstRaised}
-use Rattle.method.specs.Curve.{smoothingYear, usedQuotes, curveOfWith, curveOf, adjustedCurveWith, adjustedCurve}
+use Rattle.method.specs.Curve.{liquidOf, curveOfWith, curveOf, adjustedCurveWith, adjustedCurve}
 use Rattle.method.proofs.Outcome.{bind-with}
-use Rattle.method.proofs.QuotesBounds.{bootstrap-bounded}
+use Rattle.method.proofs.Stretches.{liquid-factors}
 use Rattle.method.proofs.Extended.{HighsAtMost}
-use Rattle.method.proofs.Enclosure.{factors-at-most, take-at-most}
+use Rattle.method.proofs.Enclosure.{factors-at-most}
 
 abbrev pub unmoved : SignedPair
 unmoved = signedPair (pos 0) (pos 0)
@@ -48,7 +46,5 @@ forwards-stay (g ∷ gs) = ap₂ (λ l h. signedPair l h ∷ gs) (+ℤ-idr (g .l
 pub unadjusted : (n : Numbers) → n .adjustment ≡ pos 0 → adjustedCurve n ≡ curveOf n
 unfolding curveOfWith adjustedCurveWith
 unadjusted n e =
-    bind-with (bootstrap (usedQuotes n))
-    λ b d.
-    let small = take-at-most smoothingYear (b .factors) (factors-at-most (bootstrap-bounded _ d .factors)) in
-    rw (e, years-stay 1 (take smoothingYear (b .factors)) small, forwards-stay _) refl
+    bind-with (liquidOf n)
+    λ b d. rw (e, years-stay 1 (b .factors) (factors-at-most (liquid-factors n d)), forwards-stay _) refl

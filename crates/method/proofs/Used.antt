@@ -9,22 +9,24 @@ use native.Mathlib.Omega.{arith}
 use borrow.Author.Tests.{le-leb, lt-leb, lt-ltb, ne-eqb}
 use lib.Dec.{ltb, lit≤}
 use lib.IntN.{ℤ}
-use lib.ListN.{length, take, drop, getD, replicate, length-map, length-drop, length-replicate, getD-replicate, List·getD-append, List·getD-map}
+use lib.ListN.{length, take, drop, getD, replicate, length-map, length-drop, length-append, length-replicate, getD-replicate, List·getD-append, List·getD-map}
 use lib.Seq.{drop-drop, drop-nil, length-take-le, getD-append-add, getD-drop}
 use Rattle.fraction.specs.Fraction.{ℚ}
 use Rattle.fraction.specs.Rounding.{U}
 use Rattle.fraction.proofs.Order.{≤ℚ-refl}
 use Rattle.fraction.proofs.Enclosure.{nat-encloses}
 use Rattle.method.specs.Units.{Pair, pair, pairsOf}
-use Rattle.method.specs.Sheet.{Numbers, maturities, volumeMaturities}
+use Rattle.method.specs.Sheet.{Profile, euro, fromTen, fromFifteen, quoteCount, smoothingIndex, volumeCount}
+use Rattle.method.specs.Sheet.{maturities, quotedMaturities, volumeMaturities, smoothingYear, Numbers}
 use Rattle.method.specs.Grounds.{done}
 use Rattle.method.specs.Quotes.{lastOf, used, kept, Bootstrap, Quote, quotesOf, bootstrap}
 use Rattle.method.specs.Ranges.{Each, none, more, climbs}
-use Rattle.method.specs.Curve.{smoothingYear, smoothingIndex, usedBy, usedQuotes, spread}
-use Rattle.method.specs.True.{billion, tradedAt, isUsed, beside, yearlyTo}
+use Rattle.method.specs.Curve.{usedBy, usedQuotes, spread}
+use Rattle.method.specs.True.{billion, smoothedFrom, volumesAt, tradedAt, isUsed, beside, yearlyTo}
 use Rattle.method.proofs.Enclosed as enclosed
 use Rattle.method.proofs.Enclosed.{AllEnclosed, enclosed-drop}
 use Rattle.method.proofs.Entries.{spelled-out}
+use Rattle.method.proofs.Slots.{smoothing-inside, some-volume, quoted-count, volume-count}
 use Rattle.method.proofs.QuotesBounds.{climbs-more, gapsFrom, bootstrap-length}
 use Rattle.method.proofs.Liquid.{Rising, RatesAbove}
 
@@ -99,13 +101,57 @@ beside-kept p [] xs = refl
 beside-kept p (m ∷ ms) [] = refl
 beside-kept p (m ∷ ms) (x ∷ xs) = ap (λ (rest : List _). cond (p m) (x ∷ rest) rest) (beside-kept p ms xs)
 
--- by maturity, or by place
-pub used-same : (vs : List ℕ) → length vs ≡ 5 → map (isUsed vs) maturities ≡ used smoothingIndex vs
-unfolding isUsed tradedAt used maturities volumeMaturities
-used-same vs five = subst (λ (v : List ℕ). map (isUsed v) maturities ≡ used smoothingIndex v) (spelled-out 0 vs five) refl
+-- marks that are not set keep nothing
+kept-none : {A : Type 0} (us : List Bool) (k : ℕ) (xs : List A) → kept (us ++ replicate k false) xs ≡ kept us xs
+unfolding kept
+kept-none [] zero xs = refl
+kept-none [] (suc k) [] = refl
+kept-none [] (suc k) (x ∷ xs) = kept-none [] k xs
+kept-none (u ∷ us) k [] = refl
+kept-none (u ∷ us) k (x ∷ xs) = ap (λ (rest : List _). cond u (x ∷ rest) rest) (kept-none us k xs)
 
-pub beside-used : {A : Type 0} (vs : List ℕ) (xs : List A) → length vs ≡ 5 → beside (isUsed vs) maturities xs ≡ kept (used smoothingIndex vs) xs
-beside-used vs xs five = beside-kept (isUsed vs) maturities xs ∙ ap (λ (us : List Bool). kept us xs) (used-same vs five)
+-- nor does what is past the marks
+kept-take : {A : Type 0} (us : List Bool) (xs : List A) → kept us (take (length us) xs) ≡ kept us xs
+unfolding kept
+kept-take [] xs = refl
+kept-take (u ∷ us) [] = refl
+kept-take (u ∷ us) (x ∷ xs) = ap (λ (rest : List _). cond u (x ∷ rest) rest) (kept-take us xs)
+
+-- by maturity, or by place; past a market's quotes none is used
+pub used-same : (p : Profile) (vs : List ℕ) → length vs ≡ volumeCount p →
+    map (isUsed p vs) maturities ≡ used (smoothingIndex p) vs ++ replicate (17 - quoteCount p) false
+unfolding isUsed tradedAt used maturities smoothedFrom volumesAt
+used-same euro vs h = subst (λ (v : List ℕ). map (isUsed euro v) maturities ≡ used 12 v ++ []) (spelled-out 0 vs h) refl
+used-same fromTen vs h = subst (λ (v : List ℕ). map (isUsed fromTen v) maturities ≡ used 9 v ++ replicate 7 false) (spelled-out 0 vs h) refl
+used-same fromFifteen vs h = subst (λ (v : List ℕ). map (isUsed fromFifteen v) maturities ≡ used 11 v ++ replicate 5 false) (spelled-out 0 vs h) refl
+
+pub beside-used : {A : Type 0} (p : Profile) (vs : List ℕ) (xs : List A) → length vs ≡ volumeCount p →
+    beside (isUsed p vs) maturities xs ≡ kept (used (smoothingIndex p) vs) xs
+beside-used p vs xs h =
+    beside-kept (isUsed p vs) maturities xs ∙ ap (λ (us : List Bool). kept us xs) (used-same p vs h) ∙ kept-none _ (17 - quoteCount p) xs
+
+-- a mark for each quote
+pub used-count : (p : Profile) (vs : List ℕ) → length vs ≡ volumeCount p → length (used (smoothingIndex p) vs) ≡ quoteCount p
+unfolding used
+used-count p vs h =
+    let marks : List Bool = map (ltb 0) (drop 1 vs) in
+    let past = length-map (drop 1 vs) (ltb 0) ∙ length-drop 1 vs in
+    omega (
+      arith,
+      length-append (replicate (suc (smoothingIndex p)) true) marks,
+      length-replicate (suc (smoothingIndex p)) true,
+      past,
+      smoothing-inside p,
+      some-volume p,
+    )
+
+-- the market's maturities alone have a mark
+pub used-maturities : (p : Profile) (vs : List ℕ) → length vs ≡ volumeCount p →
+    kept (used (smoothingIndex p) vs) maturities ≡ kept (used (smoothingIndex p) vs) (quotedMaturities p)
+unfolding quotedMaturities
+used-maturities p vs h =
+    let us = used (smoothingIndex p) vs in
+    sym (kept-take us maturities) ∙ ap (λ (k : ℕ). kept us (take k maturities)) (used-count p vs h)
 
 -- ---- the x of each stretch
 
@@ -167,6 +213,15 @@ spread-each d [] h e = none
 spread-each d (u ∷ us) h none = more h (spread-each d us h none)
 spread-each d (true ∷ us) h (more p e) = more p (spread-each d us h e)
 spread-each d (false ∷ us) h (more p e) = more p (spread-each d us h (more p e))
+
+-- one stretch has the first x
+pub spread-one : {A : Type 0} (d : A) (us : List Bool) → length us ≡ 1 → (xs : List A) → spread d us xs ≡ getD xs 0 d ∷ []
+unfolding spread
+spread-one d us one xs = subst (λ (u : List Bool). spread d u xs ≡ getD xs 0 d ∷ []) (spelled-out false us one) (alone xs)
+  where
+    alone : (ys : List _) → spread d (getD us 0 false ∷ []) ys ≡ getD ys 0 d ∷ []
+    alone [] = refl
+    alone (y ∷ ys) = refl
 
 -- lows and highs apart, or together
 pub spread-pairs : (a b : ℕ) (us : List Bool) (ls hs : List ℕ) → length ls ≡ length hs →
@@ -234,81 +289,105 @@ kept-later (true ∷ us) (m ∷ ms) least most s h =
 kept-later (false ∷ us) (m ∷ ms) least most s h =
     kept-later us ms least most (spaced-from ms (omega (arith, s .0)) (s .2)) (omega arith)
 
-abbrev pub usedMaturities : List ℕ → List ℕ
-usedMaturities vs = kept (used smoothingIndex vs) maturities
+abbrev pub usedMaturities : Profile → List ℕ → List ℕ
+usedMaturities p vs = kept (used (smoothingIndex p) vs) (quotedMaturities p)
 
--- the maturities at which the gaps from 15 on end
-abbrev pub laterEnds : List ℕ → List ℕ
-laterEnds vs = kept (drop smoothingIndex (used smoothingIndex vs)) volumeMaturities
-
-module _ (vs : List ℕ) where
-  -- past 20
-  beyond : Later 20 3 (kept (map (ltb 0) (drop 1 vs)) (25 ∷ 30 ∷ 40 ∷ 50 ∷ []))
-  beyond = kept-later _ (25 ∷ 30 ∷ 40 ∷ 50 ∷ []) (lit≤ tt) (lit≤ tt) (omega arith) (lit≤ tt)
-
-  pub used-climb : climbs 0 0 (usedMaturities vs) ≡ true
-  unfolding climbs used kept maturities
-  used-climb = beyond .climb
-
-  pub used-last : 20 ≤ lastOf 0 (usedMaturities vs)
-  unfolding lastOf used kept maturities
-  used-last = beyond .last
-
-  pub used-gaps : gapsFrom 0 0 (usedMaturities vs) ≡ 2 + length (laterEnds vs)
-  unfolding gapsFrom used kept maturities volumeMaturities
-  used-gaps = omega (arith, beyond .count)
-
-  pub used-ends : drop 10 (usedMaturities vs) ≡ 12 ∷ 15 ∷ laterEnds vs
-  unfolding used kept maturities volumeMaturities
-  used-ends = refl
+-- the maturities at which the gaps from the smoothing year's on end
+abbrev pub laterEnds : Profile → List ℕ → List ℕ
+laterEnds p vs = kept (drop (smoothingIndex p) (used (smoothingIndex p) vs)) (volumeMaturities p)
 
 pub climbs-rise : (n g : ℕ) (ms : List ℕ) → climbs n g ms ≡ true → Rising n ms
 climbs-rise n g [] h = tt
 climbs-rise n g (m ∷ ms) h = let (rises, short, rest) = climbs-more n g m ms h in (rises, climbs-rise m _ ms rest)
 
--- ---- what they yield: the years to 20 and maybe more, and a yearly factor for each gap
+-- the euro, or a market whose last quote is the smoothing year's
+pub by-market : (P : Profile → Type 0) → P euro → ((p : Profile) → suc (smoothingIndex p) ≡ quoteCount p → P p) → (p : Profile) → P p
+by-market P e f euro = e
+by-market P e f fromTen = f fromTen refl
+by-market P e f fromFifteen = f fromFifteen refl
+
+quoted-climb : (p : Profile) → climbs 0 0 (quotedMaturities p) ≡ true
+unfolding climbs maturities quotedMaturities
+quoted-climb euro = refl
+quoted-climb fromTen = refl
+quoted-climb fromFifteen = refl
+
+quoted-last : (p : Profile) → smoothingYear p ≤ lastOf 0 (quotedMaturities p)
+unfolding lastOf maturities quotedMaturities smoothingYear
+quoted-last euro = lit≤ tt
+quoted-last fromTen = lit≤ tt
+quoted-last fromFifteen = lit≤ tt
+
+-- marks for all, whatever follows them
+all-kept : {A : Type 0} (xs : List A) (us : List Bool) → kept (replicate (length xs) true ++ us) xs ≡ xs
+unfolding kept
+all-kept [] [] = refl
+all-kept [] (u ∷ us) = refl
+all-kept (x ∷ xs) us = ap (λ (ys : List _). x ∷ ys) (all-kept xs us)
+
+module _ (vs : List ℕ) where
+  -- such a market uses every quote
+  pub all-used : (p : Profile) → suc (smoothingIndex p) ≡ quoteCount p → usedMaturities p vs ≡ quotedMaturities p
+  unfolding used
+  all-used p e =
+      let ms = quotedMaturities p in
+      subst (λ (k : ℕ). kept (replicate k true ++ map (ltb 0) (drop 1 vs)) ms ≡ ms) (quoted-count p ∙ sym e) (all-kept ms _)
+
+  -- the euro past 20
+  beyond : Later 20 3 (kept (map (ltb 0) (drop 1 vs)) (25 ∷ 30 ∷ 40 ∷ 50 ∷ []))
+  beyond = kept-later _ (25 ∷ 30 ∷ 40 ∷ 50 ∷ []) (lit≤ tt) (lit≤ tt) (omega arith) (lit≤ tt)
+
+  euro-climb : climbs 0 0 (usedMaturities euro vs) ≡ true
+  unfolding climbs used kept maturities quotedMaturities
+  euro-climb = beyond .climb
+
+  euro-last : smoothingYear euro ≤ lastOf 0 (usedMaturities euro vs)
+  unfolding lastOf used kept maturities quotedMaturities smoothingYear
+  euro-last = beyond .last
+
+  pub euro-gaps : gapsFrom 0 0 (usedMaturities euro vs) ≡ 2 + length (laterEnds euro vs)
+  unfolding gapsFrom used kept maturities quotedMaturities volumeMaturities
+  euro-gaps = omega (arith, beyond .count)
+
+  pub euro-ends : drop 10 (usedMaturities euro vs) ≡ 12 ∷ 15 ∷ laterEnds euro vs
+  unfolding used kept maturities quotedMaturities volumeMaturities
+  euro-ends = refl
+
+  pub used-climb : (p : Profile) → climbs 0 0 (usedMaturities p vs) ≡ true
+  used-climb = by-market _ euro-climb (λ p e. rw (all-used p e) (quoted-climb p))
+
+  pub used-last : (p : Profile) → smoothingYear p ≤ lastOf 0 (usedMaturities p vs)
+  used-last = by-market _ euro-last (λ p e. rw (all-used p e) (quoted-last p))
+
+-- ---- what they yield: the years to the smoothing year and maybe more, and a yearly factor for each gap
 
 module _ (s : Numbers) {b : Bootstrap} (d : bootstrap (usedQuotes s) ≡ done b) where
   abbrev pub usedRates : List ℤ
   usedRates = kept (usedBy s) (s .rates)
 
-  pub used-apart : bootstrap (quotesOf (usedMaturities (s .volumes)) usedRates) ≡ done b
-  used-apart = rw (← kept-quotes (usedBy s) maturities (s .rates)) d
+  pub used-apart : bootstrap (quotesOf (usedMaturities (s .profile) (s .volumes)) usedRates) ≡ done b
+  used-apart = rw (← kept-quotes (usedBy s) (quotedMaturities (s .profile)) (s .rates)) d
 
-  module _ (seventeen : length (s .rates) ≡ 17) where
-    lengths : (length (b .factors) ≡ lastOf 0 (usedMaturities (s .volumes))) × (length (b .yearlyFactors) ≡ gapsFrom 0 0 (usedMaturities (s .volumes)))
-    unfolding maturities
+  module _ (quotes : length (s .rates) ≡ quoteCount (s .profile)) where
+    pub lengths :
+        let ms = usedMaturities (s .profile) (s .volumes) in
+        (length (b .factors) ≡ lastOf 0 ms) × (length (b .yearlyFactors) ≡ gapsFrom 0 0 ms)
     lengths =
-        let ms = usedMaturities (s .volumes) in
-        bootstrap-length ms usedRates (kept-length (usedBy s) (s .rates) maturities seventeen) (used-climb (s .volumes)) used-apart
+        let ms = quotedMaturities (s .profile) in
+        bootstrap-length _ usedRates (kept-length (usedBy s) (s .rates) ms (quotes ∙ sym (quoted-count (s .profile))))
+        (used-climb (s .volumes) (s .profile)) used-apart
 
-    pub to-smoothing-year : 20 ≤ length (b .factors)
-    to-smoothing-year = rw (lengths .0) (used-last (s .volumes))
+    pub to-smoothing-year : smoothingYear (s .profile) ≤ length (b .factors)
+    to-smoothing-year = rw (lengths .0) (used-last (s .volumes) (s .profile))
 
-    pub quoted-length : length (take smoothingYear (b .factors)) ≡ smoothingYear
-    quoted-length = length-take-le smoothingYear (b .factors) to-smoothing-year
+    pub quoted-length : length (take (smoothingYear (s .profile)) (b .factors)) ≡ smoothingYear (s .profile)
+    quoted-length = length-take-le (smoothingYear (s .profile)) (b .factors) to-smoothing-year
 
-    pub gaps-length : length (b .yearlyFactors) ≡ 2 + length (laterEnds (s .volumes))
-    gaps-length = lengths .1 ∙ used-gaps (s .volumes)
-
--- ---- the five stretches from 15 to 50
-
-volumes-rise : (n : ℕ) → n ≤ 15 → Rising n volumeMaturities
-unfolding volumeMaturities
-volumes-rise n h = omega arith
-
-pub as-many-marks : (vs : List ℕ) → length vs ≡ 5 → length (drop smoothingIndex (used smoothingIndex vs)) ≡ length volumeMaturities
-unfolding used volumeMaturities
-as-many-marks vs five = ap suc (length-map (drop 1 vs) (ltb 0) ∙ length-drop 1 vs ∙ ap (λ (k : ℕ). k - 1) five)
-
-pub five-enclosed : (vs : List ℕ) → length vs ≡ 5 → {ys : List Pair} {xs : List ℚ} → AllEnclosed ys xs → length ys ≡ 2 + length (laterEnds vs) →
-    AllEnclosed (spread (pair U U) (drop smoothingIndex (used smoothingIndex vs)) (drop 2 ys))
-    (map (λ m. yearlyTo m (drop 10 (usedMaturities vs)) xs) volumeMaturities)
-five-enclosed vs five {ys} {xs} e c =
-    let ends = laterEnds vs in
-    rw (used-ends vs, yearlies-on 12 (15 ∷ ends) xs volumeMaturities (volumes-rise 12 (omega arith)))
-    (rw (yearlies-on 15 ends (drop 1 xs) volumeMaturities (volumes-rise 15 (omega arith)), drop-drop 1 1 xs)
-    (spread-encloses _ volumeMaturities 15 (volumes-rise 15 (omega arith)) (as-many-marks vs five) (enclosed-drop 2 e) (length-drop 2 ys ∙ omega (arith, c))))
+-- a mark for each volume
+pub as-many-marks : (p : Profile) (vs : List ℕ) → length vs ≡ volumeCount p →
+    length (drop (smoothingIndex p) (used (smoothingIndex p) vs)) ≡ length (volumeMaturities p)
+as-many-marks p vs h =
+    length-drop (smoothingIndex p) (used (smoothingIndex p) vs) ∙ omega (arith, used-count p vs h, volume-count p)
 
 -- ---- the marks by their place
 

@@ -10,7 +10,7 @@ use borrow.Author.Tests.{eqb-true, ne-eqb, leb-true}
 use lib.Dec.{eqb, leb, lit<}
 use lib.IntN.{pos}
 use lib.ListN.{length, getD, take, length-map, length-take}
-use lib.Seq.{length-take-le, getD-take, take-all}
+use lib.Seq.{length-take-le, getD-take, take-all, take-take}
 use Rattle.fraction.specs.Fraction.{ℚ, _≈_, _≤ℚ_, Positive, natℚ, _-ℚ_, _*ℚ_, _÷_, recip, powℚ}
 use Rattle.fraction.specs.Rounding.{U, Encloses}
 use Rattle.fraction.proofs.Order.{≤ℚ-≈-trans, ≈-sym, ≈-trans, <ℚ→≤ℚ, positive→nonNegative}
@@ -157,7 +157,7 @@ from-length q m p (suc count) = ap suc (from-length q m (scaled p q) count)
 
 -- ---- the table, at exactly 10%
 
-κ-length : length (κPairs table) ≡ 130
+κ-length : length (κPairs table) ≡ 140
 unfolding κPairs
 κ-length = length-map table (λ k. pair k (k + 1)) ∙ table-length
 
@@ -169,7 +169,7 @@ table-weighs n i h =
 tenth-is : tenth ≈ hundredMillionths 10_000_000
 tenth-is = same-ratio 1 10_000_000 (lit< tt) (lit< tt) (omega arith)
 
-tabled-weighs : (n count h : ℕ) → count ≤ 130 → h < count →
+tabled-weighs : (n count h : ℕ) → count ≤ 140 → h < count →
     Weighs (getD (take count (κPairs table)) h (pair 0 0)) (convergence n (hundredMillionths 10_000_000) (suc h))
 tabled-weighs n count h most l =
     rw (getD-take count (κPairs table) h (pair 0 0) l)
@@ -179,9 +179,12 @@ tabled-weighs n count h most l =
 abbrev weightsBy : Bool → ℕ → ℕ → List Pair
 weightsBy exact a count = cond exact (take count (κPairs table)) (weightsFrom (decayPair a) (scalePair a (decayPair a)) (pair U U) count)
 
-pub weights-tabled : weights 10_000_000 130 ≡ κPairs table
+pub weights-tabled : (count : ℕ) → weights 10_000_000 count ≡ take count (κPairs table)
 unfolding weights
-weights-tabled = take-all 130 (κPairs table) (rw κ-length (omega arith))
+weights-tabled count = refl
+
+pub weights-whole : weights 10_000_000 140 ≡ κPairs table
+weights-whole = weights-tabled 140 ∙ take-all 140 (κPairs table) (rw κ-length (omega arith))
 
 pub weights-worked : (a count : ℕ) → (a ≡ 10_000_000 → ⊥) →
     weights a count ≡ weightsFrom (decayPair a) (scalePair a (decayPair a)) (pair U U) count
@@ -190,7 +193,7 @@ weights-worked a count n = ap (λ (exact : Bool). weightsBy exact a count) (ne-e
 
 -- ---- every order, every factor, every year
 
-pub weights-weigh : (n a count : ℕ) → 10_000_000 ≤ a → a ≤ 20_000_000 → count ≤ 130 → (h : ℕ) → h < count →
+pub weights-weigh : (n a count : ℕ) → 10_000_000 ≤ a → a ≤ 20_000_000 → count ≤ 140 → (h : ℕ) → h < count →
     Weighs (getD (weights a count) h (pair 0 0)) (convergence n (hundredMillionths a) (suc h))
 unfolding weights
 weights-weigh n a count least most years h l =
@@ -198,13 +201,28 @@ weights-weigh n a count least most years h l =
     (λ e. let exact : a ≡ 10_000_000 = eqb-true a 10_000_000 e in rw (e, exact) (tabled-weighs n count h years l))
     (λ e. rw e (worked-weighs n a least most count h l))
 
-pub weights-length : (a count : ℕ) → count ≤ 130 → length (weights a count) ≡ count
+pub weights-length : (a count : ℕ) → count ≤ 140 → length (weights a count) ≡ count
 unfolding weights
 weights-length a count years = go (eqb a 10_000_000)
   where
     go : (exact : Bool) → length (weightsBy exact a count) ≡ count
     go true = length-take-le count (κPairs table) (rw κ-length years)
     go false = from-length (decayPair a) (scalePair a (decayPair a)) (pair U U) count
+
+-- the first of them, however many are worked
+from-first : (q m p : Pair) (k n : ℕ) → k ≤ n → take k (weightsFrom q m p n) ≡ weightsFrom q m p k
+unfolding weightsFrom
+from-first q m p zero n h = refl
+from-first q m p (suc k) zero h = absurd (not-suc-le-zero h)
+from-first q m p (suc k) (suc n) h = ap (λ (κs : List Pair). cutToUnit (scaled p m) ∷ κs) (from-first q m (scaled p q) k n (le-of-suc-le-suc h))
+
+pub weights-first : (a k n : ℕ) → k ≤ n → take k (weights a n) ≡ weights a k
+unfolding weights
+weights-first a k n h = go (eqb a 10_000_000)
+  where
+    go : (exact : Bool) → take k (weightsBy exact a n) ≡ weightsBy exact a k
+    go true = take-take k n (κPairs table) h
+    go false = from-first (decayPair a) (scalePair a (decayPair a)) (pair U U) k n h
 
 -- and never more
 pub weights-most : (a count : ℕ) → length (weights a count) ≤ count

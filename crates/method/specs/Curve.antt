@@ -1,15 +1,15 @@
--- The answer of a sheet: the first ground among 1 to 4 and 7 to 10 that applies, or its curves. (5 and 6 are the book's.)
-use mathlib.Core.Bool.{Bool, true, false, cond}
+-- The answer of a sheet: the first ground among 19, 1 to 4 and 7 to 10 that applies, or its curves. (5 and 6 are the book's.)
+use mathlib.Core.Bool.{Bool, true, false, cond, _&&_}
 use mathlib.Core.List.{List, [], _∷_, _++_, map}
-use Prim.Native.Nat.{ℕ, _+_, _-_}
-use lib.Dec.{eqb}
+use Prim.Native.Nat.{ℕ, _+_, _*_, _-_, _/_}
+use lib.Dec.{eqb, leb}
 use lib.IntN.{pos}
 use lib.ListN.{length, take, drop, getD}
-use Rattle.fraction.specs.Rounding.{U}
+use Rattle.fraction.specs.Rounding.{U, ceilDiv}
 use Rattle.method.specs.Units.{Which, plain, adjusted, Pair, pair, SignedPair}
-use Rattle.method.specs.Grounds.{bandTooWide, Outcome, done, _>>=_, demand}
-use Rattle.method.specs.Sheet.{Numbers, readSheet, maturities}
-use Rattle.method.specs.Quotes.{Bootstrap, used, kept, Quote, bootstrap, quotesOf, lastYear}
+use Rattle.method.specs.Grounds.{endFailsTest, bandTooWide, Outcome, done, _>>=_, demand}
+use Rattle.method.specs.Sheet.{Profile, smoothingIndex, quotedMaturities, smoothingYear, Numbers, readSheet}
+use Rattle.method.specs.Quotes.{lowerEnd, upperEnd, Bootstrap, used, kept, Quote, bootstrap, quotesOf, lastYear}
 use Rattle.method.specs.Series.{gapForwardWith, ultimateForwardWith}
 use Rattle.method.specs.Extrapolation.{llfr, convergenceFactor, weights, extrapolateWith, adjustedYearsWith, firstRaised, firstTooWide}
 
@@ -33,35 +33,67 @@ abbrev pub curveNamed : Which → Curves → Held Curve
 curveNamed plain cs = some (cs .plain)
 curveNamed adjusted cs = cs .adjusted
 
--- years to 20 from the quotes, all later ones from the extrapolation
-abbrev pub smoothingYear : ℕ
-smoothingYear = 20
-
--- the 20-year rate's place among the quotes
-abbrev pub smoothingIndex : ℕ
-smoothingIndex = 12
+-- ---- the liquid part
 
 -- which quotes a sheet's volumes leave
 abbrev pub usedBy : Numbers → List Bool
-usedBy n = used smoothingIndex (n .volumes)
+usedBy n = used (smoothingIndex (n .profile)) (n .volumes)
 
 abbrev pub usedQuotes : Numbers → List Quote
-usedQuotes n = kept (usedBy n) (quotesOf maturities (n .rates))
+usedQuotes n = kept (usedBy n) (quotesOf (quotedMaturities (n .profile)) (n .rates))
 
--- Each of 15-20, 20-25, 25-30, 30-40, 40-50 lies in one used gap, and has its x: from one to the next the gaps step on where the quote
--- between them is used. Past the last used quote there is no gap and no volume, and so no weight on what stands there.
+-- Each stretch between two maturities, from the one that ends with the smoothing year on, lies in one used gap, and has its x: from one to
+-- the next the gaps step on where the quote between them is used. Past the last used quote there is no gap and no volume, and so no weight
+-- on what stands there.
 unfoldable pub spread : {A : Type 0} → A → List Bool → List A → List A
 spread d [] xs = []
 spread d (u ∷ us) [] = d ∷ spread d us []
 spread d (u ∷ us) (x ∷ xs) = x ∷ spread d us (cond u xs (x ∷ xs))
 
--- g1 to g5: their forwards. `slack` is what a known logarithm or growth gains (Series)
-abbrev pub gapForwardsWith : ℕ → Numbers → Bootstrap → List SignedPair
-gapForwardsWith slack n b = map (gapForwardWith slack) (spread (pair U U) (drop smoothingIndex (usedBy n)) (drop 2 (b .yearlyFactors)))
+-- the years 1 to 10 are all quoted, and no gap ends with them
+abbrev pub yearlyQuotes : ℕ
+yearlyQuotes = 10
+
+abbrev pub noYear : Pair
+noYear = pair 0 0
+
+-- the factor of year t over that of the year before, rounded outward
+unfoldable pub yearOver : List Pair → ℕ → Pair
+yearOver ps t =
+    let last = getD ps (t - 1) noYear in
+    let before = getD ps (t - 2) noYear in
+    pair (last .low * U / before .high) (ceilDiv (last .high * U) (before .low))
+
+-- the x of the used gaps from the smoothing year's on. Where no gap ends with it, x is its factor over that of the year before, and must
+-- lie within the halving's ends: 9
+unfoldable pub gapXs : Profile → Bootstrap → Outcome (List Pair)
+gapXs p b =
+    let i = smoothingIndex p in
+    let year = smoothingYear p in
+    let x = yearOver (b .factors) year in
+    let own = demand (leb lowerEnd (x .low) && leb (x .high) upperEnd) (endFailsTest year) >>= λ _. done (x ∷ []) in
+    cond (leb yearlyQuotes i) (done (drop (i - yearlyQuotes) (b .yearlyFactors))) own
+
+-- grounds 7 to 9: the years to the smoothing year, and the x of the stretches
+unfoldable pub liquidOf : Numbers → Outcome Bootstrap
+liquidOf n = do
+  b ← bootstrap (usedQuotes n)
+  xs ← gapXs (n .profile) b
+  done
+      (record {
+        factors = take (smoothingYear (n .profile)) (b .factors);
+        yearlyFactors = spread (pair U U) (drop (smoothingIndex (n .profile)) (usedBy n)) xs;
+      })
+
+-- ---- the curves. `slack` is what a known logarithm or growth gains (Series)
+
+-- g1, and on to g5 for the euro: the stretches' forwards
+abbrev pub forwardsWith : ℕ → Bootstrap → List SignedPair
+forwardsWith slack b = map (gapForwardWith slack) (b .yearlyFactors)
 
 -- the sheet's convergence factor
 unfoldable pub factorOf : Numbers → ℕ
-factorOf n = convergenceFactor (n .phaseIn) (getD (n .rates) smoothingIndex (pos 0))
+factorOf n = convergenceFactor (n .phaseIn) (getD (n .rates) (smoothingIndex (n .profile)) (pos 0))
 
 -- ground 10, after all years are worked
 unfoldable pub withinLimit : ℕ → List Pair → Outcome (List Pair)
@@ -83,16 +115,16 @@ curveWith n years = record { month = n .month; limit = n .limit; lows = map (λ 
 -- grounds 7 to 10 on the plain curve
 unfoldable pub curveOfWith : ℕ → Numbers → Outcome Curve
 curveOfWith slack n = do
-  b ← bootstrap (usedQuotes n)
-  years ← extendedWith slack n (llfr (n .volumes) (gapForwardsWith slack n b)) (take smoothingYear (b .factors))
+  b ← liquidOf n
+  years ← extendedWith slack n (llfr (n .volumes) (forwardsWith slack b)) (b .factors)
   done (curveWith n years)
 
--- then 8 and 10 on the adjusted one: the same quotes, with the adjustment in the years to 20 and in g1
+-- then 8 and 10 on the adjusted one: the same quotes, with the adjustment in the years to the smoothing year and in g1
 unfoldable pub adjustedCurveWith : ℕ → Numbers → Outcome Curve
 adjustedCurveWith slack n = do
-  b ← bootstrap (usedQuotes n)
-  quoted ← adjustedYearsWith slack (n .adjustment) 1 (take smoothingYear (b .factors))
-  years ← extendedWith slack n (llfr (n .volumes) (firstRaised (n .adjustment) (gapForwardsWith slack n b))) quoted
+  b ← liquidOf n
+  quoted ← adjustedYearsWith slack (n .adjustment) 1 (b .factors)
+  years ← extendedWith slack n (llfr (n .volumes) (firstRaised (n .adjustment) (forwardsWith slack b))) quoted
   done (curveWith n years)
 
 -- where the sheet has an adjustment
@@ -111,8 +143,8 @@ answerWith slack s = readSheet s >>= curvesOfWith slack
 
 -- ---- at present: no slack
 
-abbrev pub gapForwards : Numbers → Bootstrap → List SignedPair
-gapForwards = gapForwardsWith 0
+abbrev pub forwards : Bootstrap → List SignedPair
+forwards = forwardsWith 0
 
 abbrev pub extended : Numbers → SignedPair → List Pair → Outcome (List Pair)
 extended = extendedWith 0

@@ -1,4 +1,4 @@
--- SPECIFICATION 5: extrapolated years 21 to 150 and the volatility adjustment, with grounds 8 and 10.
+-- SPECIFICATION 5: the extrapolated years and the volatility adjustment, with grounds 8 and 10.
 use mathlib.Core.Bool.{cond}
 use mathlib.Core.List.{List, [], _∷_, map}
 use Prim.Native.Nat.{ℕ, zero, suc, _+_, _*_, _-_, _/_}

@@ -21,6 +21,7 @@ pub data Ground : Type 0 where
   ageAboveLimit : Ground
   noHighRate : Ground
   noPostLeft : Ground
+  unknownProfile : Ground
 
 abbrev pub numberOf : Ground → ℕ
 numberOf wrongLength = 1
@@ -41,6 +42,7 @@ numberOf bufferTooShort = 15
 numberOf ageAboveLimit = 16
 numberOf noHighRate = 17
 numberOf noPostLeft = 18
+numberOf unknownProfile = 19
 
 -- a record from 1, a year, or 0 where none is named
 abbrev pub placeOf : Ground → ℕ
@@ -62,6 +64,7 @@ placeOf bufferTooShort = 0
 placeOf ageAboveLimit = 0
 placeOf noHighRate = 0
 placeOf noPostLeft = 0
+placeOf unknownProfile = 0
 
 -- ---- a result, or the first ground that applies
 

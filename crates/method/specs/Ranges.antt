@@ -1,6 +1,6 @@
 -- The ranges that code above may count on: of a sheet's numbers, of factors and of yearly factors.
 use mathlib.Core.Path.{_≡_}
-use mathlib.Core.Bool.{Bool, cond, _&&_}
+use mathlib.Core.Bool.{Bool, true, cond, _&&_}
 use mathlib.Core.List.{List, [], _∷_}
 use Prim.Native.Nat.{ℕ, _+_, _-_, _≤_, _<_}
 use lib.Dec.{eqb, leb, ltb}
@@ -9,7 +9,7 @@ use lib.ListN.{length, getD}
 use lib.Signed.{mag}
 use Rattle.fraction.specs.Fraction.{posPart, negPart}
 use Rattle.method.specs.Units.{Pair}
-use Rattle.method.specs.Sheet.{Numbers, total}
+use Rattle.method.specs.Sheet.{euro, quoteCount, volumeCount, Numbers, total}
 use Rattle.method.specs.Quotes.{lowerEnd, upperEnd, highestFactor}
 
 -- ---- a sheet's numbers
@@ -23,9 +23,9 @@ pub record RateInRange (z : ℤ) : Type 0 where
 -- past the end of a list `getD` gives 0, which is in range too
 pub record NumbersInRange (n : Numbers) : Type 0 where
   pub month-most : n .month ≤ 2_399
-  pub rate-count : length (n .rates) ≡ 17
+  pub rate-count : length (n .rates) ≡ quoteCount (n .profile)
   pub rate-range : (i : ℕ) → RateInRange (getD (n .rates) i (pos 0))
-  pub volume-count : length (n .volumes) ≡ 5
+  pub volume-count : length (n .volumes) ≡ volumeCount (n .profile)
   pub volume-most : (i : ℕ) → getD (n .volumes) i 0 ≤ 1_000_000
   pub total-least : 0 < total (n .volumes)
   pub total-most : total (n .volumes) ≤ 5_000_000
@@ -35,6 +35,7 @@ pub record NumbersInRange (n : Numbers) : Type 0 where
   pub phase-in-least : 10_000 ≤ n .phaseIn
   pub phase-in-most : n .phaseIn ≤ 20_000
   pub adjustment-size : natAbs (n .adjustment) ≤ 500
+  pub adjusts-euro : n .adjusts ≡ true → n .profile ≡ euro
 
 -- ---- factors
 

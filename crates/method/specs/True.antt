@@ -8,7 +8,7 @@ use lib.IntN.{ℤ, pos}
 use lib.ListN.{length, take, drop, getD}
 use Rattle.fraction.specs.Fraction.{ℚ, leℚ, natℚ, intℚ, negℚ, _+ℚ_, _-ℚ_, _*ℚ_, _÷_, recip, powℚ, sumℚ}
 use Rattle.method.specs.Units.{Which, plain, adjusted}
-use Rattle.method.specs.Sheet.{Numbers, maturities, volumeMaturities}
+use Rattle.method.specs.Sheet.{Profile, euro, fromTen, fromFifteen, Numbers, maturities}
 
 abbrev pub billion : ℚ
 billion = natℚ 1_000_000_000
@@ -105,7 +105,19 @@ liquidFrom n (m ∷ ms) (r ∷ rs) l = liquidFrom n ms rs (toMaturity n m r l)
 unfoldable pub liquid : ℕ → List ℕ → List ℤ → Liquid
 liquid n ms rs = liquidFrom n ms rs (record { factors = []; yearly = [] })
 
--- ---- the maturities that are used: up to 20 years all, beyond them those with volume
+-- ---- the market: the year from which it is smoothed, and the maturities that have a volume
+
+unfoldable pub smoothedFrom : Profile → ℕ
+smoothedFrom euro = 20
+smoothedFrom fromTen = 10
+smoothedFrom fromFifteen = 15
+
+unfoldable pub volumesAt : Profile → List ℕ
+volumesAt euro = 20 ∷ 25 ∷ 30 ∷ 40 ∷ 50 ∷ []
+volumesAt fromTen = 10 ∷ []
+volumesAt fromFifteen = 15 ∷ []
+
+-- ---- the maturities that are used: up to that year all, beyond it those with volume
 
 -- the volume at a maturity
 unfoldable pub tradedAt : ℕ → List ℕ → List ℕ → ℕ
@@ -113,8 +125,8 @@ tradedAt m [] vs = 0
 tradedAt m (k ∷ ks) [] = 0
 tradedAt m (k ∷ ks) (v ∷ vs) = cond (eqb m k) v (tradedAt m ks vs)
 
-unfoldable pub isUsed : List ℕ → ℕ → Bool
-isUsed vs m = leb m 20 || ltb 0 (tradedAt m volumeMaturities vs)
+unfoldable pub isUsed : Profile → List ℕ → ℕ → Bool
+isUsed p vs m = leb m (smoothedFrom p) || ltb 0 (tradedAt m (volumesAt p) vs)
 
 -- what stands beside the maturities that pass a test
 unfoldable pub beside : {A : Type 0} → (ℕ → Bool) → List ℕ → List A → List A
@@ -164,7 +176,7 @@ lastLiquidForward vs fs = weighted vs (natℚ (yearsTotal vs)) (marketForwards f
 
 -- ---- the extrapolated part
 
--- the convergence factor α by the interest rate r at 20 years: ten percent when it is 0.5% or higher, X when it is -0.5% or lower,
+-- the convergence factor α by the interest rate r of the year from which it is smoothed: ten percent when it is 0.5% or higher, X when it is -0.5% or lower,
 -- linearly interpolated between 10% and X when it is between
 unfoldable pub speed : ℚ → ℚ → ℚ
 speed x r =
@@ -184,17 +196,21 @@ convergence n α h = recip α *ℚ powℚ (decay n α) (h - 1) *ℚ (natℚ 1 -�
 unfoldable pub yearForward : ℕ → ℚ → ℚ → ℚ → ℕ → ℚ
 yearForward n α l f h = l +ℚ (f -ℚ l) *ℚ convergence n α h
 
--- year 20 + h is the year before times e to minus its forward
+-- year h after the quoted ones is the year before times e to minus its forward
 unfoldable pub extrapolated : ℕ → ℚ → ℚ → ℚ → ℕ → ℕ → ℚ → List ℚ
 extrapolated n α l f h zero p = []
 extrapolated n α l f h (suc c) p =
     let next = p *ℚ exp n (negℚ (yearForward n α l f h ÷ billion)) in
     next ∷ extrapolated n α l f (suc h) c next
 
+-- the quote of the year from which it is smoothed
+unfoldable pub smoothingRate : Numbers → ℤ
+smoothingRate s = getD (beside (eqb (smoothedFrom (s .profile))) maturities (s .rates)) 0 (pos 0)
+
 -- from the quoted years and LLFR, on to year 150
 unfoldable pub toLastYear : ℕ → Numbers → ℚ → List ℚ → List ℚ
 toLastYear n s f quoted =
-    let α = speed (natℚ (s .phaseIn) ÷ natℚ 100_000) (intℚ (getD (s .rates) 12 (pos 0)) ÷ natℚ 100_000) in
+    let α = speed (natℚ (s .phaseIn) ÷ natℚ 100_000) (intℚ (smoothingRate s) ÷ natℚ 100_000) in
     let ultimate = negℚ (minusLog n (billion *ℚ (natℚ 1 +ℚ natℚ (s .ultimate) ÷ natℚ 100_000))) in
     quoted ++ extrapolated n α ultimate f 1 (150 - length quoted) (lastFactor quoted)
 
@@ -202,19 +218,34 @@ toLastYear n s f quoted =
 
 -- the maturities that are used, and the liquid part on their rates
 unfoldable pub trueMaturities : Numbers → List ℕ
-trueMaturities s = beside (isUsed (s .volumes)) maturities maturities
+trueMaturities s = beside (isUsed (s .profile) (s .volumes)) maturities maturities
 
 unfoldable pub trueLiquid : ℕ → Numbers → Liquid
-trueLiquid n s = liquid n (trueMaturities s) (beside (isUsed (s .volumes)) maturities (s .rates))
+trueLiquid n s = liquid n (trueMaturities s) (beside (isUsed (s .profile) (s .volumes)) maturities (s .rates))
 
--- f of the years up to each maturity of a volume; past ten years each used maturity ends a gap
+-- the yearly factor of the years up to m: to ten years each is quoted, and it is that of year m over year m - 1; past ten years each used
+-- maturity ends a gap
+unfoldable pub yearlyUpTo : List ℕ → Liquid → ℕ → ℚ
+yearlyUpTo ms l m =
+    let ratio = getD (l .factors) (m - 1) (natℚ 0) ÷ getD (l .factors) (m - 2) (natℚ 0) in
+    cond (leb m 10) (billion *ℚ ratio) (yearlyTo m (drop 10 ms) (l .yearly))
+
+-- of the years up to each maturity of a volume: that factor, and f
+unfoldable pub trueXs : ℕ → Numbers → List ℚ
+trueXs n s = map (yearlyUpTo (trueMaturities s) (trueLiquid n s)) (volumesAt (s .profile))
+
 unfoldable pub trueForwards : ℕ → Numbers → List ℚ
-trueForwards n s = map (λ m. minusLog n (yearlyTo m (drop 10 (trueMaturities s)) (trueLiquid n s .yearly))) volumeMaturities
+trueForwards n s = map (minusLog n) (trueXs n s)
+
+-- the years that are not smoothed
+unfoldable pub trueYears : ℕ → Numbers → List ℚ
+trueYears n s = take (smoothedFrom (s .profile)) (trueLiquid n s .factors)
 
 unfoldable pub truePlain : ℕ → Numbers → List ℚ
-truePlain n s = toLastYear n s (lastLiquidForward (s .volumes) (trueForwards n s)) (take 20 (trueLiquid n s .factors))
+truePlain n s = toLastYear n s (lastLiquidForward (s .volumes) (trueForwards n s)) (trueYears n s)
 
--- ---- the adjusted curve: VA is added to the forwards up to 20 years and, in LLFR, to the 15-20 forward alone; not to UFR
+-- ---- the adjusted curve: VA is added to the forwards up to the year from which it is smoothed and, in LLFR, to the forward just before it
+-- alone; not to UFR
 
 -- so year t falls by e^-VA, t times
 unfoldable pub loweredFrom : ℕ → ℚ → List ℚ → List ℚ
@@ -229,7 +260,7 @@ unfoldable pub trueAdjusted : ℕ → Numbers → List ℚ
 trueAdjusted n s =
     let v = intℚ (s .adjustment) ÷ natℚ 100_000 in
     let f = lastLiquidForward (s .volumes) (withVA (billion *ℚ v) (trueForwards n s)) in
-    toLastYear n s f (loweredFrom 1 (exp n (negℚ v)) (take 20 (trueLiquid n s .factors)))
+    toLastYear n s f (loweredFrom 1 (exp n (negℚ v)) (trueYears n s))
 
 -- ---- the curve that is named
 
