@@ -14,7 +14,8 @@ use Rattle.method.specs.Sheet.{Numbers, readSheet, layoutOf}
 use Rattle.method.specs.Units.{plain, adjusted}
 use Rattle.method.specs.Curve.{Curves, Held, none, some, curvesOf, answerWith, answer}
 use Rattle.method.proofs.Reading.{read-passes}
-use Rattle.method.proofs.Layouts.{sizeBy, size-is, any-length}
+use Rattle.method.proofs.Slots.{size-least, size-most}
+use Rattle.method.proofs.Layouts.{any-length}
 use Rattle.ledger.specs.History.{History, wayBack}
 use Rattle.ledger.specs.Book as ledger
 use Rattle.ledger.specs.Answers.{Wanted}
@@ -169,15 +170,11 @@ module _ (b : ledger.Book) (s : List ℕ) (n : Numbers) where
     pub curve-worked : {cs : Curves} → curvesOf n ≡ done cs → posted b s (afterReading b n) ≡ posted b s (done cs)
     curve-worked e = rw (le-leb (n .month) (b .told) h, k, e)
 
--- an accepted sheet can be kept: it has 109 bytes, 112 or 115
+-- an accepted sheet can be kept
 pub read-fits : (s : List ℕ) {n : Numbers} → readSheet s ≡ done n → Fits s
-read-fits s {n} e = go (layoutOf s .phased) (layoutOf s .adjusts) (read-passes s n e .long ∙ size-is (layoutOf s))
-  where
-    go : (phased adjusts : Bool) → length s ≡ sizeBy phased adjusts → Fits s
-    go true true h = (omega (arith, h), omega (arith, h))
-    go true false h = (omega (arith, h), omega (arith, h))
-    go false true h = (omega (arith, h), omega (arith, h))
-    go false false h = (omega (arith, h), omega (arith, h))
+read-fits s {n} e =
+    let long = read-passes s n e .long in
+    (omega (arith, long, size-least (layoutOf s)), omega (arith, long, size-most (layoutOf s)))
 
 -- ---- turn
 

@@ -85,14 +85,14 @@ tabled-pairs (k ∷ ks) = ap (λ (ps : List Pair). pair k (k + 1) ∷ ps) (table
 
 -- ---- the pairs of a factor hold U × k(h)
 
-pub weights-of : (a : ℕ) (r : Weights) → Factor a → length (r .lows) ≡ 130 → length (r .highs) ≡ 130 → pairsOf (r .lows) (r .highs) ≡ weights a 130 →
+pub weights-of : (a : ℕ) (r : Weights) → Factor a → length (r .lows) ≡ 140 → length (r .highs) ≡ 140 → pairsOf (r .lows) (r .highs) ≡ weights a 140 →
     WeightsOf a r
 weights-of a r f lows highs e = record { pairs = e; weigh = weigh }
   where
-    weighs : (n i : ℕ) → i < 130 → Weighs (pair (getD (r .lows) i 0) (getD (r .highs) i 0)) (convergence n (natℚ a ÷ natℚ 100_000_000) (suc i))
+    weighs : (n i : ℕ) → i < 140 → Weighs (pair (getD (r .lows) i 0) (getD (r .highs) i 0)) (convergence n (natℚ a ÷ natℚ 100_000_000) (suc i))
     weighs n i h =
-        rw (← zip-at pair (r .lows) (r .highs) i 0 0 (omega arith), e) (weights-weigh n a 130 (f .least) (f .most) (omega arith) i h)
+        rw (← zip-at pair (r .lows) (r .highs) i 0 0 (omega arith), e) (weights-weigh n a 140 (f .least) (f .most) (omega arith) i h)
 
-    weigh : (i : ℕ) → i < 130 → Weight a (suc i) (getD (r .lows) i 0) (getD (r .highs) i 0)
+    weigh : (i : ℕ) → i < 140 → Weight a (suc i) (getD (r .lows) i 0) (getD (r .highs) i 0)
     weigh i h =
         record { ordered = weight-ordered (weighs 0 i h); at-most-U = weighs 0 i h .at-most-U; holds = λ n. weighs n i h .weight }

@@ -47,5 +47,5 @@ pub record Weight (a h low high : ℕ) : Type 0 where
   pub holds : (n : ℕ) → Encloses (pos low) (pos high) (billion *ℚ convergence n (natℚ a ÷ natℚ 100_000_000) h)
 
 pub record WeightsOf (a : ℕ) (r : Weights) : Type 0 where
-  pub pairs : pairsOf (r .lows) (r .highs) ≡ weights a 130
-  pub weigh : (i : ℕ) → i < 130 → Weight a (suc i) (getD (r .lows) i 0) (getD (r .highs) i 0)
+  pub pairs : pairsOf (r .lows) (r .highs) ≡ weights a 140
+  pub weigh : (i : ℕ) → i < 140 → Weight a (suc i) (getD (r .lows) i 0) (getD (r .highs) i 0)

@@ -17,11 +17,11 @@ const ONE: u64 = 100_000_000;
 
 const TEN_PERCENT: u64 = 10_000_000;
 
-// Years 21 to 150.
-const LATER_YEARS: usize = 130;
+// Years 11 to 150: no market extrapolates more.
+const LATER_YEARS: usize = 140;
 
-// K(h) of SPECIFICATION 5.2, h from 1 to 130, at index h - 1.
-const K: [u64; 130] = [
+// K(h) of SPECIFICATION 5.2, h from 1 to 140, at index h - 1.
+const K: [u64; 140] = [
     951625819,
     861066649,
     779125323,
@@ -152,12 +152,22 @@ const K: [u64; 130] = [
     2903,
     2627,
     2377,
+    2150,
+    1946,
+    1761,
+    1593,
+    1441,
+    1304,
+    1180,
+    1068,
+    966,
+    874,
 ];
 
-// κ's lows and highs, for h from 1 to 130 at index h - 1.
+// κ's lows and highs, for h from 1 to 140 at index h - 1.
 pub struct Weights {
-    pub lows: [u64; 130],
-    pub highs: [u64; 130],
+    pub lows: [u64; 140],
+    pub highs: [u64; 140],
 }
 
 // ---- the factor
@@ -186,8 +196,8 @@ pub fn factor(x: u64, r: i64) -> u64
 
 // Each at every order the whole part of U × k(h), the exponential rule; K + 1 is the weight's other end. By value, because an index into
 // the constant builds it anew at every read.
-pub fn table() -> [u64; 130]
-    ensures { λ r. ⌜ ((i : ℕ) → i < 130 → TableEntry i (getD r i 0)) ⌝ }
+pub fn table() -> [u64; 140]
+    ensures { λ r. ⌜ ((i : ℕ) → i < 140 → TableEntry i (getD r i 0)) ⌝ }
 {
     K
 }
@@ -196,7 +206,7 @@ fn tabled() -> Weights
     ensures { λ r. ⌜ pairsOf (r .lows) (r .highs) ≡ κPairs table ⌝ }
 {
     let lows = table();
-    let mut highs = [0; 130];
+    let mut highs = [0; 140];
     for i in 0..LATER_YEARS {
         highs[i] = lows[i] + 1;
     }
@@ -235,11 +245,11 @@ fn cut_end(k: u64, up: bool) -> u64
 }
 
 // k(h) = P(h - 1) × M / U, with P(0) = U and P(h) = P(h - 1) × q / U.
-fn ends(q: u64, m: u64, up: bool) -> [u64; 130]
+fn ends(q: u64, m: u64, up: bool) -> [u64; 140]
     requires { ⌜ (q ≤ U) × (m ≤ 10 * U) ⌝ }
-    ensures { λ r. ⌜ r ≡ endsFrom up q m U 130 ⌝ }
+    ensures { λ r. ⌜ r ≡ endsFrom up q m U 140 ⌝ }
 {
-    let mut ends = [0; 130];
+    let mut ends = [0; 140];
     let mut p = UNIT;
     for i in 0..LATER_YEARS {
         ends[i] = cut_end(rounding::quotient(p * m, UNIT, up), up);

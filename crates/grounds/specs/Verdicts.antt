@@ -26,6 +26,7 @@ asGround code.BufferTooShort = method.bufferTooShort
 asGround code.AgeAboveLimit = method.ageAboveLimit
 asGround code.NoHighRate = method.noHighRate
 asGround code.NoPostLeft = method.noPostLeft
+asGround code.UnknownProfile = method.unknownProfile
 
 abbrev pub asOutcome : {A : Type 0} → Verdict → A → Outcome A
 asOutcome Passed a = done a

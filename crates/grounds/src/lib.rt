@@ -23,6 +23,7 @@ pub enum Ground {
     AgeAboveLimit,
     NoHighRate,
     NoPostLeft,
+    UnknownProfile,
 }
 
 pub enum Verdict {
@@ -52,6 +53,7 @@ fn ground_number(g: Ground) -> u64
         Ground::AgeAboveLimit => 16,
         Ground::NoHighRate => 17,
         Ground::NoPostLeft => 18,
+        Ground::UnknownProfile => 19,
     }
 }
 

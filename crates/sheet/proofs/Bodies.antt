@@ -9,7 +9,7 @@ use lib.Dec.{eqb, lit≤}
 use lib.ListN.{length, take, drop, getD, length-take, length-drop}
 use lib.Seq.{take-all}
 use Rattle.method.specs.Sheet.{Kind, month, rate, volume, ultimate, limit, phaseIn}
-use Rattle.method.specs.Sheet.{adjustment, maturityBytes, numberBytes, bodyLength, Slot, bodyOf, maturityRight}
+use Rattle.method.specs.Sheet.{adjustment, profile, maturityBytes, numberBytes, bodyLength, Slot, bodyOf, maturityRight}
 
 -- a record's maturity is tested where its body has one
 pub maturity-test : (k : Kind) (m : ℕ) (body : List ℕ) → maturityRight k m body ≡ cond (eqb (maturityBytes k) 0) true (eqb (getD body 0 0) m)
@@ -20,6 +20,7 @@ maturity-test ultimate m body = refl
 maturity-test limit m body = refl
 maturity-test phaseIn m body = refl
 maturity-test adjustment m body = refl
+maturity-test profile m body = refl
 
 -- a number is four bytes at most
 pub four-bytes : (k : Kind) → numberBytes k ≤ 4
@@ -30,6 +31,7 @@ four-bytes ultimate = lit≤ tt
 four-bytes limit = lit≤ tt
 four-bytes phaseIn = lit≤ tt
 four-bytes adjustment = lit≤ tt
+four-bytes profile = lit≤ tt
 
 pub number-bound : (k : Kind) → 256 ^ numberBytes k ≤ 2 ^ 32
 number-bound k = pow-le-pow-right {n = 256} (zero-lt-suc 255) (four-bytes k)

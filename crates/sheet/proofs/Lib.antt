@@ -4,3 +4,4 @@ pub mod Places
 pub mod Trading
 pub mod Ranges
 pub mod Lasts
+pub mod Choosing

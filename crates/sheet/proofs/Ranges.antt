@@ -8,7 +8,8 @@ use lib.IntN.{ℤ, pos, negsuc}
 use lib.ListN.{length, getD, length-map}
 use lib.Signed.{mag, leZ, nonNeg}
 use borrow.Author.Tests.{leb-true}
-use Rattle.method.specs.Sheet.{Kind, rate, volume, lowest, highest, Layout, layoutOf, Slot, slotsOf, slotAt, inRange, allNumbers, readSheet}
+use Rattle.method.specs.Sheet.{Kind, rate, volume, lowest, highest, quoteCount, volumeCount, Layout, layoutOf, Slot, slotsOf, slotAt, inRange}
+use Rattle.method.specs.Sheet.{rateIndex, volumeIndex, allNumbers, readSheet}
 use Rattle.method.specs.Ranges.{NumbersInRange}
 use Rattle.method.proofs.Outcome.{both-true}
 use Rattle.method.proofs.Slots.{slots-least, rate-slot, volume-slot, none-fails, number-at}
@@ -49,18 +50,18 @@ module _ (l : Layout) (zs : List ℤ) (all : AllInside l zs) where
   inside-at : (i : ℕ) (t : Slot) → i < length (slotsOf l) → slotAt l i ≡ t → inKind (t .kind) (getD zs i (pos 0)) ≡ true
   inside-at i t h e = rw (← e) (all .inside i h)
 
-  pub rate-run : Run rate 1 17 zs
+  pub rate-run : Run rate (rateIndex l) (quoteCount (l .profile)) zs
   rate-run =
       record {
         long = omega (arith, all .count, slots-least l);
-        inside = λ i h. inside-at (1 + i) _ (omega (arith, slots-least l)) (rate-slot l i h);
+        inside = λ i h. inside-at (rateIndex l + i) _ (omega (arith, slots-least l)) (rate-slot l i h);
       }
 
-  pub volume-run : Run volume 18 5 zs
+  pub volume-run : Run volume (volumeIndex l) (volumeCount (l .profile)) zs
   volume-run =
       record {
         long = omega (arith, all .count, slots-least l);
-        inside = λ i h. inside-at (18 + i) _ (omega (arith, slots-least l)) (volume-slot l i h);
+        inside = λ i h. inside-at (volumeIndex l + i) _ (omega (arith, slots-least l)) (volume-slot l i h);
       }
 
   pub unsigned-inside : (i : ℕ) (t : Slot) → i < length (slotsOf l) → slotAt l i ≡ t → nonNeg (lowest (t .kind)) ≡ true →

@@ -1,15 +1,30 @@
--- What the contracts say of the records, beyond the method's definitions.
-use mathlib.Core.Bool.{Bool, true, _&&_}
+-- What the contracts say of the markets and the records, beyond the method's definitions.
+use mathlib.Core.Bool.{Bool, true, cond, _&&_}
 use mathlib.Core.List.{List}
 use mathlib.Core.Path.{_≡_}
-use Prim.Native.Nat.{ℕ, zero, suc, _+_, _≤_, _<_}
+use Prim.Native.Nat.{ℕ, zero, suc, _+_, _*_, _≤_, _<_}
 use lib.IntN.{ℤ, pos}
 use lib.ListN.{length, getD}
 use lib.Signed.{leZ}
-use Rattle.method.specs.Sheet.{Kind, bodyLength, lowest, highest, Layout, slotsOf, slotAt}
+use Rattle.method.specs.Sheet.{Kind, bodyLength, lowest, highest, Profile, quoteCount, smoothingIndex, volumeCount, Layout, slotsOf, slotAt}
+use Rattle.sheet.specs.declared.Market.{Market}
 use Rattle.sheet.specs.declared.Entry.{Entry}
 use Rattle.sheet.specs.declared.Slot.{Slot}
 use Rattle.sheet.specs.Views.{asKind}
+
+-- a profile's market, and the ranges that code above may count on
+pub record MarketOf (p : Profile) (m : Market) : Type 0 where
+  pub quotes : m .quotes ≡ quoteCount p
+  pub smoothing : m .smoothing ≡ smoothingIndex p
+  pub most : m .quotes ≤ 17
+  pub late : 9 ≤ m .smoothing
+  pub inside : m .smoothing < m .quotes
+  pub volumes : m .quotes ≤ m .smoothing + 5
+
+-- the bytes of the profile's record where it stands, the month's, the rates', the volumes', the ultimate rate's and the limit's
+pub record FirstBytes (led : Bool) (p : Profile) (n : ℕ) : Type 0 where
+  pub is : n ≡ cond led 2 0 + 3 + 4 * quoteCount p + 6 * volumeCount p + 8
+  pub most : n ≤ 111
 
 -- what is due at index i, where the layout has it
 pub record Due (l : Layout) (i : ℕ) (e : Entry) : Type 0 where

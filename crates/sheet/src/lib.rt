@@ -1,23 +1,33 @@
-// Reads a typed sheet of any bytes: its numbers, or the first of grounds 1 to 4.
+// Reads a typed sheet of any bytes: its numbers, or the first of grounds 19 and 1 to 4.
 use grounds::Ground;
 use grounds::Verdict;
 ghost use mathlib.Core.Path.{_≡_};
 ghost use mathlib.Core.Bool.{true, cond};
 ghost use mathlib.Core.List.{map};
-ghost use Prim.Native.Nat.{_^_, _<_, _≤_};
+ghost use Prim.Native.Nat.{_+_, _^_, _<_, _≤_};
 ghost use lib.Dec.{ltb};
 ghost use lib.IntN.{pos, natAbs};
 ghost use lib.Signed.{nonNeg};
 ghost use lib.ListN.{length, take, drop, getD};
 ghost use Rattle.method.specs.Grounds.{refused};
-ghost use Rattle.method.specs.Sheet.{kindByte, maturityBytes, numberBytes, bodyLength, lowest, highest, maturities, layoutOf, sizeOf, slotsOf, slotAt};
-ghost use Rattle.method.specs.Sheet.{bodyOf, twosComplement16, reading, numberOfRecord, rightRecord, inRange, firstFailure};
+ghost use Rattle.method.specs.Sheet.{kindByte, maturityBytes, numberBytes, bodyLength, lowest, highest, maturities, smoothingYear, adjustable};
+ghost use Rattle.method.specs.Sheet.{profileBy, namesProfile, profileOf, profileKnown, layoutOf, sizeOf, slotsOf, slotAt};
+ghost use Rattle.method.specs.Sheet.{bodyOf, twosComplement16, reading, numberOfRecord, rightRecord, inRange, firstFailure, ultimateIndex};
 ghost use Rattle.method.specs.Sheet.{rate, volume, total, numbersOf, readSheet};
 ghost use Rattle.grounds.specs.Verdicts.{asGround, asOutcome, resultOr};
-ghost use Rattle.sheet.specs.Views.{asLayout, asKind, asSlot, asNumbers, noNumbers};
-ghost use Rattle.sheet.specs.Records.{Due, endOf, inKind, AllInside, Run, orElse};
+ghost use Rattle.sheet.specs.Views.{asProfile, asLayout, asKind, asSlot, asNumbers, noNumbers};
+ghost use Rattle.sheet.specs.Records.{MarketOf, FirstBytes, Due, endOf, inKind, AllInside, Run, orElse};
 
+// The euro, or a market that smooths from 10 or from 15.
+pub enum Profile {
+    Euro,
+    FromTen,
+    FromFifteen,
+}
+
+// The first rates and volumes, as many as the market has.
 pub struct Numbers {
+    pub profile: Profile,
     pub month: u64,
     pub rates: [i16; 17],
     pub volumes: [u64; 5],
@@ -34,8 +44,17 @@ pub struct ReadSheet {
     pub numbers: Numbers,
 }
 
-// Which records a sheet has: whether the phase-in's follows the 25, and whether the adjustment's stands last.
+// How many of the maturities a market quotes, and which of them, from 0, is the smoothing year.
+pub struct Market {
+    pub quotes: usize,
+    pub smoothing: usize,
+}
+
+// Which records a sheet has: whether the profile's stands first, and the profile; whether the phase-in's follows the limit's, and whether
+// the adjustment's stands last.
 pub struct Layout {
+    pub led: bool,
+    pub profile: Profile,
     pub phased: bool,
     pub adjusts: bool,
 }
@@ -48,6 +67,7 @@ pub enum Kind {
     Limit,
     PhaseIn,
     Adjustment,
+    Profile,
 }
 
 // What is due at one place of the sheet.
@@ -82,54 +102,10 @@ struct Reading {
 struct Records {
     wrong: u64,
     outside: u64,
-    numbers: [i64; 27],
+    numbers: [i64; 28],
 }
 
-// ---- the layout
-
-// By the bytes alone: past the 25 records stands one more, the adjustment's where the kind byte there is its own; past that one, both.
-pub fn layout_of(sheet: &[u8]) -> Layout
-    ensures { λ r. ⌜ asLayout r ≡ layoutOf (now (sheet .entry)) ⌝ }
-{
-    if sheet.len() <= 109 {
-        return Layout {
-            phased: false,
-            adjusts: false,
-        };
-    }
-    if 112 < sheet.len() {
-        return Layout {
-            phased: true,
-            adjusts: true,
-        };
-    }
-    let named = sheet[109] == 0x07;
-    Layout {
-        phased: !named,
-        adjusts: named,
-    }
-}
-
-// What a record adds where it stands.
-fn if_stands(stands: bool, n: usize) -> usize
-    ensures { λ r. ⌜ (r ≡ cond stands n 0) × (r ≤ n) ⌝ }
-{
-    if stands { n } else { 0 }
-}
-
-pub fn size_of(layout: Layout) -> usize
-    ensures { λ r. ⌜ r ≡ sizeOf (asLayout layout) ⌝ }
-{
-    109 + if_stands(layout.phased, 3) + if_stands(layout.adjusts, 3)
-}
-
-fn count_of(layout: Layout) -> usize
-    ensures { λ r. ⌜ (r ≡ length (slotsOf (asLayout layout))) × (r ≤ 27) ⌝ }
-{
-    25 + if_stands(layout.phased, 1) + if_stands(layout.adjusts, 1)
-}
-
-// ---- what is due
+// ---- the markets
 
 const MATURITIES: [u8; 17] = [1, 2, 3, 4, 5, 6, 7, 8, 9, 10, 12, 15, 20, 25, 30, 40, 50];
 
@@ -139,6 +115,174 @@ pub fn maturity(i: usize) -> u64
 {
     big_endian::wide(MATURITIES[i])
 }
+
+pub fn market_of(p: Profile) -> Market
+    ensures { λ r. ⌜ MarketOf (asProfile p) r ⌝ }
+{
+    match p {
+        Profile::Euro => Market {
+            quotes: 17,
+            smoothing: 12,
+        },
+        Profile::FromTen => Market {
+            quotes: 10,
+            smoothing: 9,
+        },
+        Profile::FromFifteen => Market {
+            quotes: 12,
+            smoothing: 11,
+        },
+    }
+}
+
+pub fn smoothing_year(p: Profile) -> u64
+    ensures { λ r. ⌜ r ≡ smoothingYear (asProfile p) ⌝ }
+{
+    let market = market_of(p);
+    maturity(market.smoothing)
+}
+
+// An adjustment goes with the euro only.
+fn may_adjust(p: Profile) -> bool
+    ensures { λ r. ⌜ r ≡ adjustable (asProfile p) ⌝ }
+{
+    match p {
+        Profile::Euro => true,
+        Profile::FromTen => false,
+        Profile::FromFifteen => false,
+    }
+}
+
+// ---- the layout
+
+// 0 past the end.
+fn byte_at(sheet: &[u8], i: usize) -> u8
+    ensures { λ r. ⌜ r ≡ getD (now (sheet .entry)) i 0 ⌝ }
+{
+    if i < sheet.len() { sheet[i] } else { 0 }
+}
+
+fn names_profile(sheet: &[u8]) -> bool
+    ensures { λ r. ⌜ r ≡ namesProfile (now (sheet .entry)) ⌝ }
+{
+    byte_at(sheet, 0) == 0x08
+}
+
+fn profile_by(n: u8) -> Profile
+    ensures { λ r. ⌜ asProfile r ≡ profileBy n ⌝ }
+{
+    if n == 2 {
+        return Profile::FromTen;
+    }
+    if n == 3 {
+        return Profile::FromFifteen;
+    }
+    Profile::Euro
+}
+
+// The euro also without the record.
+fn profile_of(sheet: &[u8]) -> Profile
+    ensures { λ r. ⌜ asProfile r ≡ profileOf (now (sheet .entry)) ⌝ }
+{
+    if names_profile(sheet) {
+        return profile_by(byte_at(sheet, 1));
+    }
+    Profile::Euro
+}
+
+// Ground 19's test.
+fn profile_known(sheet: &[u8]) -> bool
+    ensures { λ r. ⌜ r ≡ profileKnown (now (sheet .entry)) ⌝ }
+{
+    if !names_profile(sheet) {
+        return true;
+    }
+    if sheet.len() <= 1 {
+        return true;
+    }
+    let n = byte_at(sheet, 1);
+    if 1 <= n { n <= 3 } else { false }
+}
+
+// What a record adds where it stands.
+fn if_stands(stands: bool, n: usize) -> usize
+    ensures { λ r. ⌜ (r ≡ cond stands n 0) × (r ≤ n) ⌝ }
+{
+    if stands { n } else { 0 }
+}
+
+// The bytes of the records that every sheet of the market has.
+fn first_bytes(led: bool, p: Profile) -> usize
+    ensures { λ r. ⌜ FirstBytes led (asProfile p) r ⌝ }
+{
+    let market = market_of(p);
+    if_stands(led, 2) + 3 + 4 * market.quotes + 6 * (market.quotes - market.smoothing) + 8
+}
+
+// By the bytes alone: past these records stands one more, the adjustment's where the market may have it and the kind byte there is its own;
+// past that one, both.
+pub fn layout_of(sheet: &[u8]) -> Layout
+    ensures { λ r. ⌜ asLayout r ≡ layoutOf (now (sheet .entry)) ⌝ }
+{
+    let led = names_profile(sheet);
+    let profile = profile_of(sheet);
+    let first = first_bytes(led, profile);
+    if sheet.len() <= first {
+        return Layout {
+            led: led,
+            profile: profile,
+            phased: false,
+            adjusts: false,
+        };
+    }
+    if !may_adjust(profile) {
+        return Layout {
+            led: led,
+            profile: profile,
+            phased: true,
+            adjusts: false,
+        };
+    }
+    if first + 3 < sheet.len() {
+        return Layout {
+            led: led,
+            profile: profile,
+            phased: true,
+            adjusts: true,
+        };
+    }
+    let named = sheet[first] == 0x07;
+    Layout {
+        led: led,
+        profile: profile,
+        phased: !named,
+        adjusts: named,
+    }
+}
+
+pub fn size_of(layout: Layout) -> usize
+    ensures { λ r. ⌜ r ≡ sizeOf (asLayout layout) ⌝ }
+{
+    let profile = layout.profile;
+    first_bytes(layout.led, profile) + if_stands(layout.phased, 3) + if_stands(layout.adjusts, 3)
+}
+
+// The index of the ultimate rate's record.
+fn ultimate_index(layout: Layout) -> usize
+    ensures { λ r. ⌜ (r ≡ ultimateIndex (asLayout layout)) × (r ≤ 24) ⌝ }
+{
+    let profile = layout.profile;
+    let market = market_of(profile);
+    if_stands(layout.led, 1) + 1 + market.quotes + (market.quotes - market.smoothing)
+}
+
+fn count_of(layout: Layout) -> usize
+    ensures { λ r. ⌜ (r ≡ length (slotsOf (asLayout layout))) × (r ≤ 28) ⌝ }
+{
+    ultimate_index(layout) + 2 + if_stands(layout.phased, 1) + if_stands(layout.adjusts, 1)
+}
+
+// ---- what is due
 
 fn form_of(k: Kind) -> Form
     ensures { λ r. ⌜ (r .0 ≡ kindByte (asKind k)) × ((r .1 ≡ maturityBytes (asKind k)) × (r .2 ≡ numberBytes (asKind k))) ⌝ }
@@ -151,6 +295,7 @@ fn form_of(k: Kind) -> Form
         Kind::Limit => Form(0x05, 0, 4),
         Kind::PhaseIn => Form(0x06, 0, 2),
         Kind::Adjustment => Form(0x07, 0, 2),
+        Kind::Profile => Form(0x08, 0, 1),
     }
 }
 
@@ -165,15 +310,16 @@ fn range_of(k: Kind) -> Range
         Kind::Limit => Range(1, 100_000),
         Kind::PhaseIn => Range(10_000, 20_000),
         Kind::Adjustment => Range(-500, 500),
+        Kind::Profile => Range(1, 3),
     }
 }
 
 // Past the limit's record.
 fn last_kind(layout: Layout, i: usize) -> Kind
-    requires { ⌜ 25 ≤ i ⌝ }
+    requires { ⌜ ultimateIndex (asLayout layout) + 2 ≤ i ⌝ }
     ensures { λ r. ⌜ (i < length (slotsOf (asLayout layout)) → asKind r ≡ slotAt (asLayout layout) i .kind) ⌝ }
 {
-    if i == 25 {
+    if i == ultimate_index(layout) + 2 {
         if layout.phased {
             return Kind::PhaseIn;
         }
@@ -181,34 +327,42 @@ fn last_kind(layout: Layout, i: usize) -> Kind
     Kind::Adjustment
 }
 
-// SPECIFICATION 2.1: what is due at index i. The volumes' maturities are the last five of the table.
+// SPECIFICATION 2.1: what is due at index i. The volumes' maturities are the market's last.
 pub fn entry_at(layout: Layout, i: usize) -> Entry
-    requires { ⌜ i < 27 ⌝ }
+    requires { ⌜ i < 28 ⌝ }
     ensures { λ r. ⌜ Due (asLayout layout) i r ⌝ }
 {
-    if i == 0 {
+    let profile = layout.profile;
+    let market = market_of(profile);
+    let month = if_stands(layout.led, 1);
+    let volumes = month + 1 + market.quotes;
+    let ultimate = volumes + (market.quotes - market.smoothing);
+    if i < month {
+        Entry {
+            kind: Kind::Profile,
+            maturity: 0,
+        }
+    } else if i == month {
         Entry {
             kind: Kind::Month,
             maturity: 0,
         }
-    } else if i < 18 {
-        let j = i - 1;
+    } else if i < volumes {
         Entry {
             kind: Kind::Rate,
-            maturity: maturity(j),
+            maturity: maturity(i - month - 1),
         }
-    } else if i < 23 {
-        let j = i - 18;
+    } else if i < ultimate {
         Entry {
             kind: Kind::Volume,
-            maturity: maturity(12 + j),
+            maturity: maturity(market.smoothing + (i - volumes)),
         }
-    } else if i == 23 {
+    } else if i == ultimate {
         Entry {
             kind: Kind::Ultimate,
             maturity: 0,
         }
-    } else if i == 24 {
+    } else if i == ultimate + 1 {
         Entry {
             kind: Kind::Limit,
             maturity: 0,
@@ -274,6 +428,7 @@ fn signed(k: Kind, n: u64) -> i64
         Kind::Limit => z,
         Kind::PhaseIn => z,
         Kind::Adjustment => twos_complement(n),
+        Kind::Profile => z,
     }
 }
 
@@ -327,7 +482,7 @@ fn read_records(sheet: &[u8], layout: Layout) -> Records
     let count = count_of(layout);
     let mut wrong: u64 = 0;
     let mut outside: u64 = 0;
-    let mut numbers = [0i64; 27];
+    let mut numbers = [0i64; 28];
     let mut start: usize = 0;
     let mut i: usize = 0;
     while i < count {
@@ -356,14 +511,14 @@ fn read_records(sheet: &[u8], layout: Layout) -> Records
 
 // ---- the numbers of a sheet whose records pass
 
-fn rates(numbers: &[i64]) -> [i16; 17]
-    requires { ⌜ Run rate 1 17 (now numbers) ⌝ }
-    ensures { λ r. ⌜ r ≡ take 17 (drop 1 (now (numbers .entry))) ⌝ }
+fn rates(numbers: &[i64], from: usize, count: usize) -> [i16; 17]
+    requires { ⌜ Run rate from count (now numbers) × (count ≤ 17) ⌝ }
+    ensures { λ r. ⌜ take count r ≡ take count (drop from (now (numbers .entry))) ⌝ }
 {
     let mut rates = [0i16; 17];
     let mut i: usize = 0;
-    while i < 17 {
-        rates[i] = numbers[1 + i] as i16;
+    while i < count {
+        rates[i] = numbers[from + i] as i16;
         i += 1;
     }
     rates
@@ -377,14 +532,14 @@ fn unsigned(numbers: &[i64], i: usize) -> u64
     numbers[i] as u64
 }
 
-fn volumes(numbers: &[i64]) -> [u64; 5]
-    requires { ⌜ Run volume 18 5 (now numbers) ⌝ }
-    ensures { λ r. ⌜ r ≡ map natAbs (take 5 (drop 18 (now (numbers .entry)))) ⌝ }
+fn volumes(numbers: &[i64], from: usize, count: usize) -> [u64; 5]
+    requires { ⌜ Run volume from count (now numbers) × (count ≤ 5) ⌝ }
+    ensures { λ r. ⌜ take count r ≡ map natAbs (take count (drop from (now (numbers .entry)))) ⌝ }
 {
     let mut volumes = [0u64; 5];
     let mut i: usize = 0;
-    while i < 5 {
-        volumes[i] = unsigned(numbers, 18 + i);
+    while i < count {
+        volumes[i] = unsigned(numbers, from + i);
         i += 1;
     }
     volumes
@@ -398,7 +553,7 @@ fn phase_in(numbers: &[i64], layout: Layout) -> u64
     ensures { λ r. ⌜ r ≡ numbersOf (asLayout layout) (now (numbers .entry)) .phaseIn ⌝ }
 {
     if layout.phased {
-        unsigned(numbers, 25)
+        unsigned(numbers, ultimate_index(layout) + 2)
     } else {
         ABSENT_PHASE_IN
     }
@@ -420,30 +575,48 @@ fn numbers_of(numbers: &[i64], layout: Layout) -> Numbers
     requires { ⌜ AllInside (asLayout layout) (now numbers) ⌝ }
     ensures { λ r. ⌜ asNumbers r ≡ numbersOf (asLayout layout) (now (numbers .entry)) ⌝ }
 {
+    let profile = layout.profile;
+    let market = market_of(profile);
+    let month = if_stands(layout.led, 1);
+    let from = month + 1 + market.quotes;
+    let count = market.quotes - market.smoothing;
+    let ultimate = from + count;
     Numbers {
-        month: unsigned(numbers, 0),
-        rates: rates(numbers),
-        volumes: volumes(numbers),
-        ultimate: unsigned(numbers, 23),
-        limit: unsigned(numbers, 24),
+        profile: profile,
+        month: unsigned(numbers, month),
+        rates: rates(numbers, month + 1, market.quotes),
+        volumes: volumes(numbers, from, count),
+        ultimate: unsigned(numbers, ultimate),
+        limit: unsigned(numbers, ultimate + 1),
         phase_in: phase_in(numbers, layout),
         adjusts: layout.adjusts,
         adjustment: adjustment(numbers, layout),
     }
 }
 
-// Whether a volume is above 0: ground 4's test.
-fn traded(volumes: [u64; 5]) -> bool
-    ensures { λ r. ⌜ r ≡ ltb 0 (total volumes) ⌝ }
+// Whether one of the first volumes is above 0: ground 4's test.
+fn traded(volumes: [u64; 5], count: usize) -> bool
+    requires { ⌜ count ≤ 5 ⌝ }
+    ensures { λ r. ⌜ r ≡ ltb 0 (total (take count volumes)) ⌝ }
 {
     let mut i: usize = 0;
-    while i < 5 {
+    while i < count {
         if 0 < volumes[i] {
             return true;
         }
         i += 1;
     }
     false
+}
+
+// Ground 4's test on the volumes that the sheet carries.
+fn any_traded(n: Numbers) -> bool
+    ensures { λ r. ⌜ r ≡ ltb 0 (total (asNumbers n .volumes)) ⌝ }
+{
+    let profile = n.profile;
+    let market = market_of(profile);
+    let volumes = n.volumes;
+    traded(volumes, market.quotes - market.smoothing)
 }
 
 fn refused(g: Ground) -> ReadSheet
@@ -453,6 +626,7 @@ fn refused(g: Ground) -> ReadSheet
     ReadSheet {
         verdict: Verdict::Refused(g),
         numbers: Numbers {
+            profile: Profile::Euro,
             month: 0,
             rates: [0i16; 17],
             volumes: [0u64; 5],
@@ -470,6 +644,9 @@ pub fn read(sheet: &[u8]) -> ReadSheet
     ensures outcome { λ r. ⌜ asOutcome (r .verdict) (asNumbers (r .numbers)) ≡ readSheet (now (sheet .entry)) ⌝ }
     ensures beside { λ r. ⌜ asNumbers (r .numbers) ≡ resultOr noNumbers (readSheet (now (sheet .entry))) ⌝ }
 {
+    if !profile_known(sheet) {
+        return refused(Ground::UnknownProfile);
+    }
     let layout = layout_of(sheet);
     if sheet.len() != size_of(layout) {
         return refused(Ground::WrongLength);
@@ -486,8 +663,7 @@ pub fn read(sheet: &[u8]) -> ReadSheet
     let all = records.numbers;
     let count = count_of(layout);
     let numbers = numbers_of(&all[..count], layout);
-    let volumes = numbers.volumes;
-    if !traded(volumes) {
+    if !any_traded(numbers) {
         return refused(Ground::NoVolume);
     }
     ReadSheet {

@@ -6,7 +6,7 @@ use Prim.Native.Nat.{ℕ, _+_}
 use lib.Dec.{ltb}
 use lib.ListN.{length, drop, getD}
 use Rattle.method.specs.Quotes.{used}
-use Rattle.method.specs.Curve.{smoothingIndex, spread}
+use Rattle.method.specs.Curve.{spread}
 use Rattle.method.proofs.Entries.{spelled-out}
 use Rattle.method.proofs.Used.{spread-from}
 
@@ -16,10 +16,10 @@ mark vs i = ltb 0 (getD vs i 0)
 
 -- the marks from the smoothing year's on
 pub marks-are : (vs : List ℕ) → length vs ≡ 5 →
-    drop smoothingIndex (used smoothingIndex vs) ≡ true ∷ mark vs 1 ∷ mark vs 2 ∷ mark vs 3 ∷ mark vs 4 ∷ []
+    drop 12 (used 12 vs) ≡ true ∷ mark vs 1 ∷ mark vs 2 ∷ mark vs 3 ∷ mark vs 4 ∷ []
 unfolding used
 marks-are vs five =
-    subst (λ (v : List ℕ). drop smoothingIndex (used smoothingIndex v) ≡ true ∷ mark v 1 ∷ mark v 2 ∷ mark v 3 ∷ mark v 4 ∷ []) (spelled-out 0 vs five) refl
+    subst (λ (v : List ℕ). drop 12 (used 12 v) ≡ true ∷ mark v 1 ∷ mark v 2 ∷ mark v 3 ∷ mark v 4 ∷ []) (spelled-out 0 vs five) refl
 
 -- the gap after a quote
 abbrev pub after : Bool → ℕ → ℕ

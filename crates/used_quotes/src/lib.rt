@@ -1,57 +1,64 @@
-// The quotes that a sheet's volumes leave, and for each stretch between two quotes the x of the used gap that it lies in.
+// The quotes that a sheet's volumes leave, and for each stretch between two quotes its x: that of the used gap that it lies in, or where it
+// is a quoted year alone that year over the one before.
+use bootstrap::Liquid;
 use bootstrap::Quotes;
+use rounding::Pair;
+use sheet::Numbers;
 ghost use mathlib.Core.Path.{_≡_};
 ghost use mathlib.Core.Bool.{false, cond};
-ghost use Prim.Native.Nat.{ℕ, _+_, _≤_, _<_};
+ghost use Prim.Native.Nat.{_+_, _≤_, _<_};
 ghost use lib.Dec.{ltb};
-ghost use lib.IntN.{pos};
 ghost use lib.ListN.{take, drop, getD};
-ghost use lib.Signed.{mag};
 ghost use Rattle.fraction.specs.Rounding.{U};
-ghost use Rattle.method.specs.Sheet.{maturities};
-ghost use Rattle.method.specs.Quotes.{used, kept, quotesOf};
-ghost use Rattle.method.specs.Curve.{smoothingIndex, spread};
-ghost use Rattle.bootstrap.specs.Liquids.{asQuotes, QuotesClimb};
+ghost use Rattle.method.specs.Units.{pair};
+ghost use Rattle.method.specs.Ranges.{NumbersInRange};
+ghost use Rattle.method.specs.Quotes.{used};
+ghost use Rattle.method.specs.Curve.{usedQuotes, spread, yearOver};
+ghost use Rattle.rounding.specs.Pairs.{asPair};
+ghost use Rattle.sheet.specs.Views.{asNumbers};
+ghost use Rattle.bootstrap.specs.Liquids.{asQuotes, asBootstrap, QuotesClimb, LiquidSound};
+ghost use Rattle.used_quotes.specs.Factors.{FactorOf};
 
 // U of the definitions.
 const UNIT: u64 = 1_000_000_000;
 
-const QUOTES: usize = 17;
-
-// The smoothing year's place among them.
-const SMOOTHING_INDEX: usize = 12;
-
-// The gap that ends there.
+// The gap that ends with the euro's smoothing year.
 const SMOOTHING_GAP: usize = 2;
 
 // ---- the quotes
 
 // Up to the smoothing year all are, past it those whose maturity has volume.
-fn is_used(volumes: [u64; 5], i: usize) -> bool
-    requires { ⌜ i < 17 ⌝ }
-    ensures { λ r. ⌜ r ≡ getD (used smoothingIndex volumes) i false ⌝ }
+fn is_used(smoothing: usize, volumes: [u64; 5], i: usize) -> bool
+    requires { ⌜ i < smoothing + 5 ⌝ }
+    ensures { λ r. ⌜ r ≡ getD (used smoothing volumes) i false ⌝ }
 {
-    if SMOOTHING_INDEX < i {
-        0 < volumes[i - SMOOTHING_INDEX]
+    if smoothing < i {
+        0 < volumes[i - smoothing]
     } else {
         true
     }
 }
 
 // In the order of their maturities.
-pub fn select(rates: [i16; 17], volumes: [u64; 5]) -> Quotes
-    requires { ⌜ ((i : ℕ) → mag (getD rates i (pos 0)) ≤ 12_000) ⌝ }
-    ensures quotes { λ r. ⌜ asQuotes r ≡ kept (used smoothingIndex volumes) (quotesOf maturities rates) ⌝ }
+pub fn select(n: Numbers) -> Quotes
+    requires { ⌜ NumbersInRange (asNumbers n) ⌝ }
+    ensures quotes { λ r. ⌜ asQuotes r ≡ usedQuotes (asNumbers n) ⌝ }
     ensures climb { λ r. ⌜ QuotesClimb r ⌝ }
 {
+    let profile = n.profile;
+    let market = sheet::market_of(profile);
+    let quotes = market.quotes;
+    let smoothing = market.smoothing;
+    let rates = n.rates;
+    let volumes = n.volumes;
     let mut q = Quotes {
         maturities: [0; 17],
         rates: [0i16; 17],
         count: 0,
     };
     let mut i: usize = 0;
-    while i < QUOTES {
-        if is_used(volumes, i) {
+    while i < quotes {
+        if is_used(smoothing, volumes, i) {
             let k = q.count;
             q.maturities[k] = sheet::maturity(i);
             q.rates[k] = rates[i];
@@ -60,6 +67,32 @@ pub fn select(rates: [i16; 17], volumes: [u64; 5]) -> Quotes
         i = i + 1;
     }
     q
+}
+
+// ---- a quoted year over the one before
+
+// The factor of an index.
+fn factor_at(q: Liquid, i: usize) -> Pair
+    requires { ⌜ LiquidSound q × (i < q .count) ⌝ }
+    ensures { λ r. ⌜ FactorOf q i r ⌝ }
+{
+    Pair {
+        low: q.lows[i] as u64,
+        high: q.highs[i] as u64,
+    }
+}
+
+// Rounded outward.
+pub fn year_over(q: Liquid, year: usize) -> Pair
+    requires { ⌜ LiquidSound q × (2 ≤ year) × (year ≤ q .count) ⌝ }
+    ensures { λ r. ⌜ asPair r ≡ yearOver (asBootstrap q .factors) year ⌝ }
+{
+    let last = factor_at(q, year - 1);
+    let before = factor_at(q, year - 2);
+    Pair {
+        low: rounding::quotient(last.low * UNIT, before.high, false),
+        high: rounding::quotient(last.high * UNIT, before.low, true),
+    }
 }
 
 // ---- the gaps
@@ -80,10 +113,23 @@ fn x_of(xs: [u64; 7], gaps: usize, gap: usize) -> u64
     if gap < gaps { xs[gap] } else { UNIT }
 }
 
-// The x of 15-20, 20-25, 25-30, 30-40 and 40-50.
+// A gap's, at both ends.
+pub fn gap_x(q: Liquid, gap: usize) -> Pair
+    requires { ⌜ LiquidSound q ⌝ }
+    ensures { λ r. ⌜ asPair r ≡ getD (asBootstrap q .yearlyFactors) gap (pair U U) ⌝ }
+{
+    let lows = q.xlows;
+    let highs = q.xhighs;
+    Pair {
+        low: x_of(lows, q.gaps, gap),
+        high: x_of(highs, q.gaps, gap),
+    }
+}
+
+// The euro's: the x of 15-20, 20-25, 25-30, 30-40 and 40-50.
 pub fn spread_out(volumes: [u64; 5], xs: [u64; 7], gaps: usize) -> [u64; 5]
     requires { ⌜ gaps ≤ 7 ⌝ }
-    ensures { λ r. ⌜ r ≡ spread U (drop smoothingIndex (used smoothingIndex volumes)) (drop 2 (take gaps xs)) ⌝ }
+    ensures { λ r. ⌜ r ≡ spread U (drop 12 (used 12 volumes)) (drop 2 (take gaps xs)) ⌝ }
 {
     let to25 = SMOOTHING_GAP + 1;
     let to30 = gap_after(to25, volumes[1]);

@@ -1,4 +1,4 @@
--- 1 to 4 on the bytes, then the numbers.
+-- 19 and 1 to 4 on the bytes, then the numbers.
 use mathlib.Core.Path.{sym, ap, _∙_}
 use Prim.Native.Nat.{ℕ}
 use Rattle.ledger.specs.Book.{Booked}
@@ -32,9 +32,9 @@ returns c =
 
 post-numbers-requires : tie.Need-post-numbers-requires
 post-numbers-requires c κs =
-    let read = c .before .before .before .read .ensures .0 in
+    let read = c .before .before .before .read in
     let told = c .before .enum-told .given .1 in
-    (read-in-range _ _ read told, read-fits _ (at-verdict _ told read))
+    (read-in-range _ (read .result) (read .ensures .0) told, read-fits _ (at-verdict _ told (read .ensures .0)))
 
 returns-2 : tie.Need-returns-2
 returns-2 c =

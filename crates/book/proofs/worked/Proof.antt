@@ -1,4 +1,4 @@
--- 1 to 4 on the bytes, then 7 to 10 on the numbers: where one applies, nothing stands.
+-- 19 and 1 to 4 on the bytes, then 7 to 10 on the numbers: where one applies, nothing stands.
 use mathlib.Core.Path.{_≡_, _∙_}
 use denote.Ref.{now}
 use Rattle.method.specs.Grounds.{done}
@@ -30,7 +30,7 @@ returns c =
     c .nothing-stands .ensures ∙ not-read _ refusal
 
 from-numbers-requires : tie.Need-from-numbers-requires
-from-numbers-requires c κs = read-in-range _ _ (c .before .before .before .read .ensures .0) (c .before .enum-told .given .1)
+from-numbers-requires c κs = let read = c .before .before .before .read in read-in-range _ (read .result) (read .ensures .0) (c .before .enum-told .given .1)
 
 -- the numbers that were read
 module _ (w : tie.After-from-numbers) where

@@ -14,7 +14,7 @@ abbrev Inv-loop : tie.InvT-loop
 Inv-loop q m up ends₀ p₀ i₀ ends p i = Worked up q m ends p i
 
 abbrev μ-loop : tie.MeasureT-loop
-μ-loop q m up ends₀ p₀ i₀ ends p i = 130 - i
+μ-loop q m up ends₀ p₀ i₀ ends p i = 140 - i
 
 loop-holds : tie.Need-loop-holds Inv-loop μ-loop
 loop-holds c = at-start (c .args .up) (c .args .q) (c .args .m) _ (search needs)

@@ -17,10 +17,10 @@ abbrev Inv-loop : tie.InvT-loop
 Inv-loop lows highs₀ i₀ highs i = Filled (map (λ k. k + 1) lows) highs i
 
 abbrev μ-loop : tie.MeasureT-loop
-μ-loop lows highs₀ i₀ highs i = 130 - i
+μ-loop lows highs₀ i₀ highs i = 140 - i
 
 -- the whole table
-table-length : (c : tie.After-table Inv-loop μ-loop) → length (c .table .result) ≡ 130
+table-length : (c : tie.After-table Inv-loop μ-loop) → length (c .table .result) ≡ 140
 table-length c = search needs
 
 table-is : (c : tie.After-table Inv-loop μ-loop) → c .table .result ≡ table
@@ -59,15 +59,15 @@ loop-again : tie.Need-loop-again Inv-loop μ-loop
 loop-again c =
     let at = c .before in
     let lows = at .before .table .result in
-    let inside : at .loop .i < 130 = search needs in
-    let long : length (map (λ k. k + 1) lows) ≡ 130 = rw length-map (table-length (at .before)) in
+    let inside : at .loop .i < 140 = search needs in
+    let long : length (map (λ k. k + 1) lows) ≡ 140 = rw length-map (table-length (at .before)) in
     filled-more _ _ (at .loop .i) _ (0 + 1) (at .loop .inv) (rw long inside) (sym (List·getD-map (λ k. k + 1) lows (at .loop .i) 0))
 
 returns : tie.Need-returns Inv-loop μ-loop
 returns c =
     let at = c .before in
     let lows = at .before .table .result in
-    let long : length (map (λ k. k + 1) lows) ≡ 130 = rw length-map (table-length (at .before)) in
+    let long : length (map (λ k. k + 1) lows) ≡ 140 = rw length-map (table-length (at .before)) in
     let highs : at .loop .highs ≡ map (λ k. k + 1) lows = filled-all _ _ (at .loop .i) (at .loop .inv) (rw long (search needs)) in
     rw (highs, table-is (at .before)) (tabled-pairs table)
 

@@ -6,7 +6,7 @@ use lib.ListN.{length}
 use Rattle.fraction.specs.Rounding.{U, ceilDiv}
 use Rattle.method.specs.Units.{pair, pairsOf}
 use Rattle.method.specs.Extrapolation.{decayPair, scalePair, weightsFrom, weights}
-use Rattle.method.proofs.Weights.{weights-tabled, weights-worked}
+use Rattle.method.proofs.Weights.{weights-whole, weights-worked}
 use Rattle.convergence.specs.Weights.{endsFrom}
 use Rattle.convergence.proofs.Sides.{ends-are, weights-of}
 use Rattle.convergence.proofs.Working.{ends-length}
@@ -21,7 +21,7 @@ returns : tie.Need-returns
 returns c =
     let s = c .before .before in
     let ten : s .args .a ≡ 10_000_000 = c .before .if1 .taken in
-    let is : pairsOf (c .tabled .result .lows) (c .tabled .result .highs) ≡ weights (s .args .a) 130 = c .tabled .ensures ∙ rw ten (sym weights-tabled) in
+    let is : pairsOf (c .tabled .result .lows) (c .tabled .result .highs) ≡ weights (s .args .a) 140 = c .tabled .ensures ∙ rw ten (sym weights-whole) in
     weights-of (s .args .a) (c .tabled .result) (s .pre) (search needs) (search needs) is
 
 decay-end-requires : tie.Need-decay-end-requires
@@ -58,13 +58,13 @@ returns-2 c =
     let low-scale : at-low-scale .scale-end .result ≡ m .low = at-low-scale .scale-end .ensures .0 ∙ ap (λ (q : ℕ). (U - q) * 100_000_000 / a) high in
     let high-scale : at-high-scale .scale-end2 .result ≡ m .high =
     at-high-scale .scale-end2 .ensures .0 ∙ ap (λ (q : ℕ). ceilDiv ((U - q) * 100_000_000) a) low in
-    let lows = at-lows .ends .ensures ∙ ap₂ (λ (q m : ℕ). endsFrom false q m U 130) low low-scale in
-    let highs = c .ends2 .ensures ∙ ap₂ (λ (q m : ℕ). endsFrom true q m U 130) high high-scale in
-    let worked : weights a 130 ≡ weightsFrom (decayPair a) (scalePair a (decayPair a)) (pair U U) 130 = weights-worked a 130 (at-low .before .if1 .left) in
-    let is : pairsOf (at-lows .ends .result) (c .ends2 .result) ≡ weights a 130 =
-    rw (lows, highs, worked) (ends-are (decayPair a) (scalePair a (decayPair a)) (pair U U) 130) in
-    let lows-length : length (at-lows .ends .result) ≡ 130 = rw lows (ends-length false _ _ U 130) in
-    let highs-length : length (c .ends2 .result) ≡ 130 = rw highs (ends-length true _ _ U 130) in
+    let lows = at-lows .ends .ensures ∙ ap₂ (λ (q m : ℕ). endsFrom false q m U 140) low low-scale in
+    let highs = c .ends2 .ensures ∙ ap₂ (λ (q m : ℕ). endsFrom true q m U 140) high high-scale in
+    let worked : weights a 140 ≡ weightsFrom (decayPair a) (scalePair a (decayPair a)) (pair U U) 140 = weights-worked a 140 (at-low .before .if1 .left) in
+    let is : pairsOf (at-lows .ends .result) (c .ends2 .result) ≡ weights a 140 =
+    rw (lows, highs, worked) (ends-are (decayPair a) (scalePair a (decayPair a)) (pair U U) 140) in
+    let lows-length : length (at-lows .ends .result) ≡ 140 = rw lows (ends-length false _ _ U 140) in
+    let highs-length : length (c .ends2 .result) ≡ 140 = rw highs (ends-length true _ _ U 140) in
     weights-of a _ (s .pre) lows-length highs-length is
 
 pub weights-at-spec : {M : Type 1} → statement M

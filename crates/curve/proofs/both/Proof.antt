@@ -3,17 +3,17 @@ use mathlib.Core.Path.{_≡_, sym, ap, _∙_}
 use mathlib.Core.Bool.{true, false≢true}
 use mathlib.Core.List.{List}
 use borrow.Author.Tests.{not-true, not-false}
-use lib.Dec.{lit<}
-use lib.ListN.{take}
+use Prim.Native.Nat.{_-_}
+use native.Mathlib.Omega.{arith}
 use Rattle.method.specs.Units.{plain, Pair, SignedPair}
 use Rattle.method.specs.Grounds.{done}
+use Rattle.method.specs.Sheet.{smoothingYear}
 use Rattle.method.specs.Extrapolation.{llfr}
-use Rattle.method.specs.Curve.{smoothingYear}
+use Rattle.method.proofs.Markets.{smoothing-least}
 use Rattle.grounds.specs.Verdicts.{asOutcome}
 use Rattle.grounds.proofs.Chain.{at-verdict, refused-alone}
 use Rattle.sheet.specs.Views.{asNumbers}
-use Rattle.extrapolation.specs.Extrapolated.{asForwards, asYears}
-use Rattle.curve.specs.Curves.{asCurve, curveFrom}
+use Rattle.curve.specs.Curves.{asCurve, quotedIn, forwardsIn, curveFrom}
 use Rattle.curve.proofs.Laws.{plain-refused, plain-alone, adjusted-refused, both-done, passed-is}
 use Rattle.curve.proofs.Extending.{wider, liquid-usable}
 use borrow.Author.Needs.{needs}
@@ -24,16 +24,16 @@ use Rattle.curve.proofs.both.Tie as tie
 
 module _ (x : tie.After-extended) where
   abbrev start : tie.Start
-  start = x .before .before .before .before .before
+  start = x .before .before .before .before
 
   abbrev quoted : List Pair
-  quoted = take smoothingYear (asYears (start .args .years))
+  quoted = quotedIn (asNumbers (start .args .n)) (start .args .years)
 
   plain-is :
       let r = x .extended .result in
       asOutcome (r .verdict) (asCurve (r .curve))
-      ≡ curveFrom (asNumbers (start .args .n)) (llfr (start .args .n .volumes) (asForwards (start .args .g))) quoted
-  plain-is = x .extended .ensures .0 ∙ ap (λ (f : SignedPair). curveFrom (asNumbers (start .args .n)) f quoted) (x .before .llfr .ensures .0)
+      ≡ curveFrom (asNumbers (start .args .n)) (llfr (asNumbers (start .args .n) .volumes) (forwardsIn (asNumbers (start .args .n)) (start .args .g))) quoted
+  plain-is = x .extended .ensures .0 ∙ ap (λ (f : SignedPair). curveFrom (asNumbers (start .args .n)) f quoted) (x .before .llfr-of .ensures .0)
 
 -- ---- and after the adjusted one
 
@@ -43,7 +43,8 @@ module _ (y : tie.After-adjusted) where
 
   plain-done :
       let s = start plain-of in
-      curveFrom (asNumbers (s .args .n)) (llfr (s .args .n .volumes) (asForwards (s .args .g))) (quoted plain-of)
+      let n = asNumbers (s .args .n) in
+      curveFrom n (llfr (n .volumes) (forwardsIn n (s .args .g))) (quoted plain-of)
       ≡ done (asCurve (plain-of .extended .result .curve))
   plain-done = at-verdict _ (y .before .before .before .before .enum-told .given .1) (plain-is plain-of)
 
@@ -52,18 +53,18 @@ module _ (y : tie.After-adjusted) where
 
 -- ---- the needs
 
-llfr-requires : tie.Need-llfr-requires
-llfr-requires c κs =
-    let s = c .before .before .before in
-    (s .pre .numbers .volume-most, s .pre .numbers .total-least, wider (s .args .g) (s .pre .sizes))
+llfr-of-requires : tie.Need-llfr-of-requires
+llfr-of-requires c κs = let s = c .before .before in (s .pre .numbers, wider (s .args .g) (s .pre .sizes))
 
 extended-requires : tie.Need-extended-requires
 extended-requires c κs =
-    let pre = c .before .before .before .before .pre in
+    let s = c .before .before .before in
+    let pre = s .pre in
+    let year = smoothingYear (asNumbers (s .args .n) .profile) in
     record {
       onward = pre .onward;
-      usable = liquid-usable pre plain (c .llfr .result) (c .llfr .ensures .0) (c .llfr .ensures .1);
-      last = pre .in-range 19 (lit< tt);
+      usable = liquid-usable pre plain (c .llfr-of .result) (c .llfr-of .ensures .0) (c .llfr-of .ensures .1);
+      last = pre .in-range (year - 1) (omega (arith, smoothing-least (asNumbers (s .args .n) .profile)));
     }
 
 enum-told : tie.Need-enum-told
@@ -100,7 +101,7 @@ returns-2 c =
     (says .0, (says .1, λ e. ap asCurve (p .3) ∙ c .before .no-curve .ensures))
 
 adjusted-requires : tie.Need-adjusted-requires
-adjusted-requires c κs = search needs
+adjusted-requires c κs = (start (c .before .before .before .before .before) .pre, not-false _ (c .if1 .left))
 
 enum-told-3 : tie.Need-enum-told-3
 enum-told-3 c = search needs
@@ -136,7 +137,7 @@ pub both-spec : {M : Type 1} → statement M
 both-spec =
     tie.close
     (tie.spec
-    llfr-requires
+    llfr-of-requires
     extended-requires
     enum-told
     enum-told-2

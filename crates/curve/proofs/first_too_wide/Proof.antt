@@ -12,7 +12,6 @@ use Rattle.curve.proofs.first_too_wide.Statement.{statement}
 use Rattle.curve.proofs.first_too_wide.Tie as tie
 use Rattle.curve.proofs.first_too_wide.Reads as reads
 use Rattle.curve.proofs.first_too_wide.Lts as lts
-use Rattle.curve.proofs.band.Reads as band-reads
 
 record Left (limit : ℕ) (years : Years) (i : ℕ) : Type 0 where
   within : i ≤ 150

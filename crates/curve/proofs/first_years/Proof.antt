@@ -1,8 +1,7 @@
 -- Invariant: the zeros, with as many of the factors as the loop has copied.
 use mathlib.Core.Path.{_≡_, refl}
-use Prim.Native.Nat.{ℕ, _-_}
+use Prim.Native.Nat.{ℕ, _-_, _≤_}
 use native.Mathlib.Omega.{arith}
-use lib.Dec.{lit≤}
 use lib.ListN.{length, replicate}
 use borrow.Author.Needs.{needs}
 use Rattle.bootstrap.specs.declared.Liquid.{Liquid}
@@ -13,15 +12,15 @@ use Rattle.curve.proofs.first_years.Tie as tie
 use Rattle.curve.proofs.first_years.Reads as reads
 use Rattle.curve.proofs.first_years.Lts as lts
 
-record BothCopied (q : Liquid) (years : Years) (i : ℕ) : Type 0 where
-  lows : Copied (replicate 150 0) (q .lows) (years .lows) 20 i
-  highs : Copied (replicate 150 0) (q .highs) (years .highs) 20 i
+record BothCopied (q : Liquid) (years : Years) (year i : ℕ) : Type 0 where
+  lows : Copied (replicate 150 0) (q .lows) (years .lows) year i
+  highs : Copied (replicate 150 0) (q .highs) (years .highs) year i
 
 abbrev Inv-loop : tie.InvT-loop
-Inv-loop q years₀ i₀ years i = BothCopied q years i
+Inv-loop year q years₀ i₀ years i = BothCopied q years year i
 
 abbrev μ-loop : tie.MeasureT-loop
-μ-loop q years₀ i₀ years i = 20 - i
+μ-loop year q years₀ i₀ years i = 20 - i
 
 loop-holds : tie.Need-loop-holds Inv-loop μ-loop
 loop-holds c =
@@ -29,12 +28,19 @@ loop-holds c =
     let lows : length (q .lows) ≡ 50 = search needs in
     let highs : length (q .highs) ≡ 50 = search needs in
     record {
-      lows = copied-none (replicate 150 0) (q .lows) (replicate 150 0) 20 (lit≤ tt) (omega (arith, lows)) refl;
-      highs = copied-none (replicate 150 0) (q .highs) (replicate 150 0) 20 (lit≤ tt) (omega (arith, highs)) refl;
+      lows = copied-none (replicate 150 0) (q .lows) (replicate 150 0) (c .args .year) (omega (arith, c .pre)) (omega (arith, lows, c .pre)) refl;
+      highs = copied-none (replicate 150 0) (q .highs) (replicate 150 0) (c .args .year) (omega (arith, c .pre)) (omega (arith, highs, c .pre)) refl;
     }
 
 returns : tie.Need-returns Inv-loop μ-loop
-returns c = absurd (omega (arith, c .before .before .before .pre, c .if1 .taken, c .before .loop-test .taken))
+returns c =
+    let at-loop = c .before .before in
+    let l = at-loop .loop in
+    let q = at-loop .before .args .t1 in
+    let year = at-loop .before .args .year in (
+      copied-all (replicate 150 0) (q .lows) (l .years .lows) year (l .i) (l .inv .lows) (c .if1 .taken),
+      copied-all (replicate 150 0) (q .highs) (l .years .highs) year (l .i) (l .inv .highs) (c .if1 .taken),
+    )
 
 mul-years : tie.Need-mul-years Inv-loop μ-loop
 mul-years c = search needs
@@ -71,17 +77,20 @@ loop-again c =
     let at-test = c .before .before .before in
     let l = at-test .before .loop in
     let q = at-test .before .before .args .t1 in
+    let year = at-test .before .before .args .year in
     record {
-      lows = copied-more (replicate 150 0) (q .lows) (l .years .lows) 20 (l .i) (l .inv .lows) (at-test .loop-test .taken);
-      highs = copied-more (replicate 150 0) (q .highs) (l .years .highs) 20 (l .i) (l .inv .highs) (at-test .loop-test .taken);
+      lows = copied-more (replicate 150 0) (q .lows) (l .years .lows) year (l .i) (l .inv .lows) (c .before .before .if1 .left);
+      highs = copied-more (replicate 150 0) (q .highs) (l .years .highs) year (l .i) (l .inv .highs) (c .before .before .if1 .left);
     }
 
 returns-2 : tie.Need-returns-2 Inv-loop μ-loop
 returns-2 c =
     let l = c .before .loop in
-    let q = c .before .before .args .t1 in (
-      copied-all (replicate 150 0) (q .lows) (l .years .lows) 20 (l .i) (l .inv .lows) (c .loop-test .left),
-      copied-all (replicate 150 0) (q .highs) (l .years .highs) 20 (l .i) (l .inv .highs) (c .loop-test .left),
+    let q = c .before .before .args .t1 in
+    let year = c .before .before .args .year in
+    let past : year ≤ l .i = omega (arith, c .before .before .pre, c .loop-test .left) in (
+      copied-all (replicate 150 0) (q .lows) (l .years .lows) year (l .i) (l .inv .lows) past,
+      copied-all (replicate 150 0) (q .highs) (l .years .highs) year (l .i) (l .inv .highs) past,
     )
 
 pub first-years-spec : {M : Type 1} → statement M

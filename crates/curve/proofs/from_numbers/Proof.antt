@@ -11,11 +11,17 @@ use borrow.Author.Needs.{needs}
 use Rattle.curve.proofs.from_numbers.Statement.{statement}
 use Rattle.curve.proofs.from_numbers.Tie as tie
 
+-- the bootstrap, of the quotes that are used
+worked : (c : tie.After-bootstrap) →
+    let r = c .bootstrap .result in
+    asOutcome (r .verdict) (asBootstrap (r .liquid)) ≡ bootstrap (usedQuotes (asNumbers (c .before .before .args .n)))
+worked c = c .bootstrap .ensures .0 ∙ ap bootstrap (c .before .select .ensures .0)
+
 select-requires : tie.Need-select-requires
-select-requires c κs = λ k. c .before .before .pre .rate-range k .small
+select-requires c κs = search needs
 
 bootstrap-requires : tie.Need-bootstrap-requires
-bootstrap-requires c κs = c .select .ensures .1
+bootstrap-requires c κs = search needs
 
 enum-told : tie.Need-enum-told
 enum-told c = search needs
@@ -25,12 +31,6 @@ enum-told-2 c = search needs
 
 unworked-requires : tie.Need-unworked-requires
 unworked-requires c κs = search needs
-
--- the bootstrap, of the quotes that are used
-worked : (c : tie.After-bootstrap) →
-    let r = c .bootstrap .result in
-    asOutcome (r .verdict) (asBootstrap (r .liquid)) ≡ bootstrap (usedQuotes (asNumbers (c .before .before .before .before .args .n)))
-worked c = c .bootstrap .ensures .0 ∙ ap bootstrap (c .before .select .ensures .0)
 
 returns : tie.Need-returns
 returns c =
@@ -44,7 +44,7 @@ from-quotes-requires c κs =
     let at-quotes = c .before .before .before in
     let quotes = at-quotes .bootstrap in
     record {
-      numbers = at-quotes .before .before .before .before .pre;
+      numbers = at-quotes .before .before .pre;
       worked = at-verdict _ (c .before .enum-told .given .1) (worked at-quotes);
       sound = quotes .ensures .1 .1;
     }

@@ -64,6 +64,9 @@ enum-told-17 c = search needs
 enum-told-18 : tie.Need-enum-told-18
 enum-told-18 c = search needs
 
+enum-told-19 : tie.Need-enum-told-19
+enum-told-19 c = search needs
+
 returns : tie.Need-returns
 returns c = numbered (c .enum-told .given .1)
 
@@ -118,6 +121,9 @@ returns-17 c = numbered (c .enum-told17 .given .1)
 returns-18 : tie.Need-returns-18
 returns-18 c = numbered (c .enum-told18 .given .1)
 
+returns-19 : tie.Need-returns-19
+returns-19 c = numbered (c .enum-told19 .given .1)
+
 pub ground-number-spec : {M : Type 1} → statement M
 ground-number-spec =
     tie.close
@@ -140,6 +146,7 @@ ground-number-spec =
     enum-told-16
     enum-told-17
     enum-told-18
+    enum-told-19
     returns
     returns-2
     returns-3
@@ -157,4 +164,5 @@ ground-number-spec =
     returns-15
     returns-16
     returns-17
-    returns-18)
+    returns-18
+    returns-19)

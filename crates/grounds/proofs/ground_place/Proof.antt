@@ -9,7 +9,7 @@ use Rattle.method.specs.Grounds.{placeOf}
 use Rattle.grounds.specs.declared.Ground.{Ground}
 use Rattle.grounds.specs.declared.Ground.the-variants.{WrongLength, WrongRecord, OutOfRange, NoVolume, AfterToldMonth, BeforeStandingCurve}
 use Rattle.grounds.specs.declared.Ground.the-variants.{LowBelowOne, HighAboveLimit, EndFailsTest, BandTooWide, MonthAboveLast, MonthBeforeTold}
-use Rattle.grounds.specs.declared.Ground.the-variants.{YearOutside, NoCurve, BufferTooShort, AgeAboveLimit, NoHighRate, NoPostLeft}
+use Rattle.grounds.specs.declared.Ground.the-variants.{YearOutside, NoCurve, BufferTooShort, AgeAboveLimit, NoHighRate, NoPostLeft, UnknownProfile}
 use Rattle.grounds.specs.Verdicts.{asGround}
 use Rattle.grounds.proofs.Ground.{the-type}
 use Rattle.grounds.proofs.ground_place.Statement.{statement}
@@ -17,7 +17,7 @@ use Rattle.grounds.proofs.ground_place.Tie as tie
 
 -- the variants of the last arm, counted from 0
 abbrev others : List ℕ
-others = 0 ∷ 3 ∷ 4 ∷ 5 ∷ 10 ∷ 11 ∷ 12 ∷ 13 ∷ 14 ∷ 15 ∷ 16 ∷ 17 ∷ []
+others = 0 ∷ 3 ∷ 4 ∷ 5 ∷ 10 ∷ 11 ∷ 12 ∷ 13 ∷ 14 ∷ 15 ∷ 16 ∷ 17 ∷ 18 ∷ []
 
 unplaced : (g : Ground) → OneOf others (tagOf the-type g) → 0 ≡ placeOf (asGround g)
 unplaced WrongLength t = refl
@@ -38,6 +38,7 @@ unplaced BufferTooShort t = refl
 unplaced AgeAboveLimit t = refl
 unplaced NoHighRate t = refl
 unplaced NoPostLeft t = refl
+unplaced UnknownProfile t = refl
 
 placed : {g h : Ground} → g ≡ h → placeOf (asGround h) ≡ placeOf (asGround g)
 placed e = sym (ap (λ (x : Ground). placeOf (asGround x)) e)

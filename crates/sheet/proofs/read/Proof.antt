@@ -1,5 +1,6 @@
 -- The grounds in their order, by the laws of `readSheet`.
 use mathlib.Core.Path.{_≡_, refl, sym, ap, _∙_}
+use mathlib.Core.Bool.{true}
 use mathlib.Core.List.{List, map}
 use Prim.Native.Nat.{ℕ}
 use native.Mathlib.Omega.{arith}
@@ -9,9 +10,10 @@ use lib.ListN.{length, take, length-take, length-map}
 use denote.Ref.{now}
 use borrow.Author.Tests.{not-true, not-false}
 use Rattle.method.specs.Grounds.{Ground, wrongRecord, outOfRange, Outcome, refused}
-use Rattle.method.specs.Sheet.{Layout, layoutOf, sizeOf, slotsOf, numberOfRecord, rightRecord, inRange, firstFailure}
+use Rattle.method.specs.Sheet.{profileKnown, Layout, layoutOf, sizeOf, slotsOf, numberOfRecord, rightRecord, inRange, firstFailure}
 use Rattle.method.specs.Sheet.{allNumbers, total, Numbers, numbersOf, sheetNumbers}
-use Rattle.method.proofs.Reading.{firstWrong, firstOutside, read-wrong-length, read-wrong-record, read-out-of-range, read-no-volume, read-numbers}
+use Rattle.method.proofs.Reading.{firstWrong, firstOutside, read-unknown-profile, read-wrong-length, read-wrong-record, read-out-of-range}
+use Rattle.method.proofs.Reading.{read-no-volume, read-numbers}
 use Rattle.grounds.specs.Verdicts.{resultOr}
 use Rattle.sheet.specs.Views.{asLayout, asNumbers, noNumbers}
 use Rattle.sheet.proofs.Ranges.{all-inside}
@@ -26,13 +28,16 @@ says told e = rw e told
 -- ---- what the calls say, by the sheet's own layout
 
 abbrev sheet-of : tie.After-size-of → List ℕ
-sheet-of c = now (c .before .before .before .args .sheet)
+sheet-of c = now (c .before .before .before .before .before .args .sheet)
+
+known : (c : tie.After-size-of) → profileKnown (sheet-of c) ≡ true
+known c = let told = c .before .before in sym (told .before .profile-known .ensures) ∙ not-false _ (told .if1 .left)
 
 size-is : (c : tie.After-size-of) → c .size-of .result ≡ sizeOf (layoutOf (sheet-of c))
 size-is c = c .size-of .ensures ∙ ap sizeOf (c .before .layout-of .ensures)
 
-long : (c : tie.Else1) → length (sheet-of (c .before)) ≡ sizeOf (layoutOf (sheet-of (c .before)))
-long c = c .if1 .left ∙ size-is (c .before)
+long : (c : tie.Else2) → length (sheet-of (c .before)) ≡ sizeOf (layoutOf (sheet-of (c .before)))
+long c = c .if2 .left ∙ size-is (c .before)
 
 wrong-is : (c : tie.After-read-records) → c .read-records .result .wrong ≡ firstWrong (sheet-of (c .before .before))
 wrong-is c =
@@ -46,14 +51,14 @@ outside-is c =
     let s = sheet-of made in
     c .read-records .ensures .1 .0 ∙ ap (λ (l : Layout). firstFailure (inRange s) 1 (slotsOf l)) (made .before .layout-of .ensures)
 
-right : (c : tie.Else2) → firstWrong (sheet-of (c .before .before .before)) ≡ 0
+right : (c : tie.Else3) → firstWrong (sheet-of (c .before .before .before)) ≡ 0
 right c =
-    let passed : c .before .read-records .result .wrong ≡ 0 = c .if2 .left in
+    let passed : c .before .read-records .result .wrong ≡ 0 = c .if3 .left in
     sym (wrong-is (c .before)) ∙ passed
 
-inside : (c : tie.Else3) → firstOutside (sheet-of (c .before .before .before .before)) ≡ 0
+inside : (c : tie.Else4) → firstOutside (sheet-of (c .before .before .before .before)) ≡ 0
 inside c =
-    let passed : c .before .before .read-records .result .outside ≡ 0 = c .if3 .left in
+    let passed : c .before .before .read-records .result .outside ≡ 0 = c .if4 .left in
     sym (outside-is (c .before .before)) ∙ passed
 
 -- the part of the array that is passed on
@@ -72,21 +77,33 @@ part-long c =
     let made = c .before .before .before .before .before .before in
     rw (numbers-are c, length-map, c .count-of .ensures .0, made .before .layout-of .ensures)
 
-sheet-numbers : (c : tie.After-numbers-of) →
-    let made = c .before .before .before .before .before .before .before .before in
-    asNumbers (c .numbers-of .result) ≡ sheetNumbers (sheet-of made)
+-- the point at which the sheet's own size is known
+abbrev made-of : tie.After-numbers-of → tie.After-size-of
+made-of c = c .before .before .before .before .before .before .before .before
+
+sheet-numbers : (c : tie.After-numbers-of) → asNumbers (c .numbers-of .result) ≡ sheetNumbers (sheet-of (made-of c))
 sheet-numbers c =
-    let made = c .before .before .before .before .before .before .before .before in
+    let made = made-of c in
     c .numbers-of .ensures
     ∙ ap (numbersOf (asLayout (made .before .layout-of .result))) (numbers-are (c .before .before))
     ∙ ap (λ (l : Layout). numbersOf l (allNumbers (sheet-of made))) (made .before .layout-of .ensures)
 
-traded-is : (c : tie.After-traded) →
-    let made = c .before .before .before .before .before .before .before .before .before .before in
-    ltb 0 (total (sheetNumbers (sheet-of made) .volumes)) ≡ c .traded .result
-traded-is c = sym (c .traded .ensures ∙ ap (λ (n : Numbers). ltb 0 (total (n .volumes))) (sheet-numbers (c .before .before)))
+traded-is : (c : tie.After-any-traded) → ltb 0 (total (sheetNumbers (sheet-of (made-of (c .before))) .volumes)) ≡ c .any-traded .result
+traded-is c = sym (c .any-traded .ensures ∙ ap (λ (n : Numbers). ltb 0 (total (n .volumes))) (sheet-numbers (c .before)))
 
 -- ---- the needs
+
+profile-known-requires : tie.Need-profile-known-requires
+profile-known-requires c κs = search needs
+
+refused-requires : tie.Need-refused-requires
+refused-requires c κs = search needs
+
+returns : tie.Need-returns
+returns c =
+    let at = c .before .before in
+    let unknown = sym (at .profile-known .ensures) ∙ not-true _ (c .before .if1 .taken) in
+    says (c .refused .ensures) (read-unknown-profile (now (at .before .before .args .sheet)) unknown)
 
 layout-of-requires : tie.Need-layout-of-requires
 layout-of-requires c κs = search needs
@@ -94,36 +111,38 @@ layout-of-requires c κs = search needs
 size-of-requires : tie.Need-size-of-requires
 size-of-requires c κs = search needs
 
-refused-requires : tie.Need-refused-requires
-refused-requires c κs = search needs
-
-returns : tie.Need-returns
-returns c =
-    let made = c .before .before in
-    says (c .refused .ensures) (read-wrong-length (sheet-of made) (λ e. c .before .if1 .taken (e ∙ sym (size-is made))))
-
-read-records-requires : tie.Need-read-records-requires
-read-records-requires c κs = search needs
-
 refused-requires-2 : tie.Need-refused-requires-2
 refused-requires-2 c κs = search needs
 
 returns-2 : tie.Need-returns-2
 returns-2 c =
-    let at = c .before .before in
-    says (c .refused2 .ensures)
-    (read-wrong-record (sheet-of (at .before .before)) (long (at .before)) (λ e. c .before .if2 .taken (wrong-is at ∙ e))
-    ∙ ap (λ (i : ℕ). refused (wrongRecord i)) (sym (wrong-is at)))
+    let made = c .before .before in
+    says (c .refused2 .ensures) (read-wrong-length (sheet-of made) (known made) (λ e. c .before .if2 .taken (e ∙ sym (size-is made))))
+
+read-records-requires : tie.Need-read-records-requires
+read-records-requires c κs = search needs
 
 refused-requires-3 : tie.Need-refused-requires-3
 refused-requires-3 c κs = search needs
 
 returns-3 : tie.Need-returns-3
 returns-3 c =
+    let at = c .before .before in
+    let made = at .before .before in
+    says (c .refused3 .ensures)
+    (read-wrong-record (sheet-of made) (known made) (long (at .before)) (λ e. c .before .if3 .taken (wrong-is at ∙ e))
+    ∙ ap (λ (i : ℕ). refused (wrongRecord i)) (sym (wrong-is at)))
+
+refused-requires-4 : tie.Need-refused-requires-4
+refused-requires-4 c κs = search needs
+
+returns-4 : tie.Need-returns-4
+returns-4 c =
     let second = c .before .before in
     let at = second .before in
-    says (c .refused3 .ensures)
-    (read-out-of-range (sheet-of (at .before .before)) (long (at .before)) (right second) (λ e. c .before .if3 .taken (outside-is at ∙ e))
+    let made = at .before .before in
+    says (c .refused4 .ensures)
+    (read-out-of-range (sheet-of made) (known made) (long (at .before)) (right second) (λ e. c .before .if4 .taken (outside-is at ∙ e))
     ∙ ap (λ (i : ℕ). refused (outOfRange i)) (sym (outside-is at)))
 
 count-of-requires : tie.Need-count-of-requires
@@ -143,46 +162,51 @@ numbers-of-requires c κs =
     let made = third .before .before .before .before in
     rw (numbers-are (c .before), made .before .layout-of .ensures) (all-inside _ (inside third))
 
-traded-requires : tie.Need-traded-requires
-traded-requires c κs = search needs
+any-traded-requires : tie.Need-any-traded-requires
+any-traded-requires c κs = search needs
 
-refused-requires-4 : tie.Need-refused-requires-4
-refused-requires-4 c κs = search needs
-
-returns-4 : tie.Need-returns-4
-returns-4 c =
-    let fourth = c .before in
-    let third = fourth .before .before .before .before .before .before .before in
-    let first = third .before .before .before in
-    let untraded = traded-is (fourth .before) ∙ not-true _ (fourth .if4 .taken) in
-    says (c .refused4 .ensures) (read-no-volume (sheet-of (first .before)) (long first) (right (third .before)) (inside third) untraded)
+refused-requires-5 : tie.Need-refused-requires-5
+refused-requires-5 c κs = search needs
 
 returns-5 : tie.Need-returns-5
 returns-5 c =
-    let made = c .before .before .before in
-    let third = made .before .before .before .before in
+    let fifth = c .before in
+    let third = fifth .before .before .before .before .before .before in
     let first = third .before .before .before in
-    let traded = traded-is (c .before) ∙ not-false _ (c .if4 .left) in
-    rw (read-numbers (sheet-of (first .before)) (long first) (right (third .before)) (inside third) traded, sheet-numbers made) (refl, refl)
+    let made = first .before in
+    let untraded = traded-is (fifth .before) ∙ not-true _ (fifth .if5 .taken) in
+    says (c .refused5 .ensures) (read-no-volume (sheet-of made) (known made) (long first) (right (third .before)) (inside third) untraded)
+
+returns-6 : tie.Need-returns-6
+returns-6 c =
+    let numbers = c .before .before in
+    let third = numbers .before .before .before .before in
+    let first = third .before .before .before in
+    let made = first .before in
+    let traded = traded-is (c .before) ∙ not-false _ (c .if5 .left) in
+    rw (read-numbers (sheet-of made) (known made) (long first) (right (third .before)) (inside third) traded, sheet-numbers numbers) (refl, refl)
 
 pub read-spec : {M : Type 1} → statement M
 read-spec =
     tie.close
     (tie.spec
-    layout-of-requires
-    size-of-requires
+    profile-known-requires
     refused-requires
     returns
-    read-records-requires
+    layout-of-requires
+    size-of-requires
     refused-requires-2
     returns-2
+    read-records-requires
     refused-requires-3
     returns-3
+    refused-requires-4
+    returns-4
     count-of-requires
     array-share-prefix-all
     slice-aggregate-numbers-of
     numbers-of-requires
-    traded-requires
-    refused-requires-4
-    returns-4
-    returns-5)
+    any-traded-requires
+    refused-requires-5
+    returns-5
+    returns-6)

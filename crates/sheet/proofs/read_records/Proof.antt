@@ -40,7 +40,7 @@ loop-holds c =
     let start = c .before .before in
     let l = asLayout (start .args .layout) in
     let n = length (slotsOf l) in
-    let zeros = replicate 27 (pos 0) in
+    let zeros = replicate 28 (pos 0) in
     let long : length (take n zeros) ≡ n = length-take-le n zeros (slots-most l) in (
       record {
         at = sym (cursor-first l);

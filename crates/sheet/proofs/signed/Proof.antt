@@ -45,6 +45,9 @@ enum-told-7 c = search needs
 twos-complement-requires-2 : tie.Need-twos-complement-requires-2
 twos-complement-requires-2 c κs = rw (c .enum-told7 .given .1) at (c .before .before .pre)
 
+enum-told-8 : tie.Need-enum-told-8
+enum-told-8 c = search needs
+
 returns : tie.Need-returns
 returns c = rw (c .enum-told .given .1) (plain (c .before .before))
 
@@ -66,6 +69,9 @@ returns-6 c = rw (c .enum-told6 .given .1) (plain (c .before .before))
 returns-7 : tie.Need-returns-7
 returns-7 c = rw (toZ-ofZ w64 _ (record { sfits = c .twos-complement2 .ok }), c .before .enum-told7 .given .1) (c .twos-complement2 .ensures)
 
+returns-8 : tie.Need-returns-8
+returns-8 c = rw (c .enum-told8 .given .1) (plain (c .before .before))
+
 pub signed-spec : {M : Type 1} → statement M
 signed-spec =
     tie.close
@@ -80,10 +86,12 @@ signed-spec =
     enum-told-6
     enum-told-7
     twos-complement-requires-2
+    enum-told-8
     returns
     returns-2
     returns-3
     returns-4
     returns-5
     returns-6
-    returns-7)
+    returns-7
+    returns-8)

@@ -1,10 +1,14 @@
--- The definition's bytes, computed for each layout.
-use mathlib.Core.Path.{refl}
-use borrow.Author.Needs.{needs}
-use Rattle.method.proofs.Layouts.{size-is}
+-- The bytes of the records, summed.
+use mathlib.Core.Path.{_∙_, sym}
+use native.Mathlib.Omega.{arith}
+use Rattle.method.proofs.Slots.{size-is}
 use Rattle.sheet.specs.Views.{asLayout}
+use borrow.Author.Needs.{needs}
 use Rattle.sheet.proofs.size_of.Statement.{statement}
 use Rattle.sheet.proofs.size_of.Tie as tie
+
+first-bytes-requires : tie.Need-first-bytes-requires
+first-bytes-requires c κs = search needs
 
 if-stands-requires : tie.Need-if-stands-requires
 if-stands-requires c κs = search needs
@@ -19,7 +23,17 @@ add-result-2 : tie.Need-add-result-2
 add-result-2 c = search needs
 
 returns : tie.Need-returns
-returns c = rw (size-is (asLayout (c .before .before .args .layout)), c .before .if-stands .ensures .0, c .if-stands2 .ensures .0) refl
+returns c =
+    let at = c .before .before in
+    omega (arith, size-is (asLayout (at .before .args .layout)), at .first-bytes .ensures .is, c .before .if-stands .ensures .0, c .if-stands2 .ensures .0)
 
 pub size-of-spec : {M : Type 1} → statement M
-size-of-spec = tie.close (tie.spec if-stands-requires add-result if-stands-requires-2 add-result-2 returns)
+size-of-spec =
+    tie.close
+    (tie.spec
+    first-bytes-requires
+    if-stands-requires
+    add-result
+    if-stands-requires-2
+    add-result-2
+    returns)

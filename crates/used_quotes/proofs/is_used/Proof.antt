@@ -7,7 +7,6 @@ use lib.Dec.{ltb}
 use lib.ListN.{getD}
 use borrow.Author.Needs.{needs}
 use Rattle.method.specs.Quotes.{used}
-use Rattle.method.specs.Curve.{smoothingIndex}
 use Rattle.method.proofs.Used.{used-to, used-past}
 use Rattle.used_quotes.proofs.is_used.Statement.{statement}
 use Rattle.used_quotes.proofs.is_used.Tie as tie
@@ -24,15 +23,16 @@ array-read-result c = search needs
 returns : tie.Need-returns
 returns c =
     let a = c .before .args in
-    let j = a .i - 13 in
-    let past : a .i ≡ suc smoothingIndex + j = omega (arith, c .if1 .taken) in
-    let volume : a .i - 12 ≡ 1 + j = omega (arith, c .if1 .taken) in
-    ap (λ (k : ℕ). ltb 0 (getD (a .t1) k 0)) volume
-    ∙ sym (used-past smoothingIndex (a .t1) j)
-    ∙ ap (λ (k : ℕ). getD (used smoothingIndex (a .t1)) k false) (sym past)
+    let s = a .smoothing in
+    let j = a .i - s - 1 in
+    let past : a .i ≡ suc s + j = omega (arith, c .if1 .taken) in
+    let volume : a .i - s ≡ 1 + j = omega (arith, c .if1 .taken) in
+    ap (λ (k : ℕ). ltb 0 (getD (a .t2) k 0)) volume
+    ∙ sym (used-past s (a .t2) j)
+    ∙ ap (λ (k : ℕ). getD (used s (a .t2)) k false) (sym past)
 
 returns-2 : tie.Need-returns-2
-returns-2 c = let a = c .before .args in sym (used-to smoothingIndex (a .t1) (a .i) (c .if1 .left))
+returns-2 c = let a = c .before .args in sym (used-to (a .smoothing) (a .t2) (a .i) (c .if1 .left))
 
 pub is-used-spec : {M : Type 1} → statement M
 is-used-spec = tie.close (tie.spec sub-result mul-result array-read-result returns returns-2)
