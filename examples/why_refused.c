@@ -9,18 +9,18 @@
 #include "short_journal.h"
 #include "tuyqorem.h"
 
-/* The grounds of docs/SPECIFICATION.md, section 9; a record can meet 1 to 14 and 16 to 18. */
+/* The grounds of docs/SPECIFICATION.md, section 9; a record can meet 1 to 14 and 16 to 19. */
 static const char *const reasons[] = {
     "",
-    "the sheet's length is none of 109, 112 and 115",
+    "the sheet's length is none that its profile has",
     "a record's kind or maturity is not the one due",
     "a number is outside its range",
     "no volume is above 0",
     "the sheet's month is after the told month",
     "the sheet's month is before the standing curve's",
-    "a low of years 1 to 50 is below 1",
+    "a low of a year from the quotes is below 1",
     "a high is above 2,000,000,000",
-    "an end of the halving fails its test",
+    "an end of the halving fails its test, or year 10 over year 9 is outside the ends",
     "high less low is above the sheet's limit",
     "the month is above 2,399",
     "the month is before the told month",
@@ -30,6 +30,7 @@ static const char *const reasons[] = {
     "the curve's age is above the book's limit",
     "no high rate up to 100,000 exists",
     "no post is left to withdraw",
+    "the profile is not 1 to 3",
 };
 
 static void print_answer(uint64_t answer) {

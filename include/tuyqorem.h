@@ -1,4 +1,4 @@
-/* The dated euro curve book, replayed from a journal of calls.
+/* The dated curve book of the euro and of two smaller markets, replayed from a journal of calls.
  *
  * A journal is any bytes, read as records one after another:
  *   0x50, a length in 2 bytes, then a sheet of that many bytes: a post
@@ -12,12 +12,19 @@
  * curve that is older than the limit is turned away with 16 and not shown. The book still holds it: posts, turns and
  * withdrawals are answered as with any other limit.
  *
- * A sheet has 109, 112 or 115 bytes: it may end with a record for the phase-in (0x06, 3 bytes), one for the volatility
- * adjustment (0x07, 3 bytes), or both in this order. With an adjustment, be it 0, a post works two curves, the plain one and
- * the adjusted one, and is turned down as a whole where either fails. Look-ups and pages name their curve by kind: the adjusted
- * one where bit 0 is set, else the plain one. A look-up also names what it wants of the year by kind: where bit 1 is set the sum
- * of years 1 to that year, as an annuity of one a year has it, else the year's factor; a page ignores bit 1. All other bits are
- * ignored. A look-up in a journal is of the plain curve's factor.
+ * A sheet may start with a profile record (0x08 and a profile byte), which names its market: 1 is the euro, also
+ * without the record, with quotes up to 50 years and a smoothing year of 20; 2 has quotes 1 to 10 and smooths from
+ * 10; 3 has 1 to 10, 12 and 15 and smooths from 15. Profiles 2 and 3 carry one volume, that of the smoothing year.
+ * Every other profile byte is 19, and a lone 0x08 is 1. A sheet of the euro has 109, 112 or 115 bytes, and 2 more
+ * with the record: it may end with a record for the phase-in (0x06, 3 bytes), one for the volatility adjustment
+ * (0x07, 3 bytes), or both in this order. One of profile 2 has 59 bytes, one of profile 3 has 67, both with the
+ * record, and 3 more with one for the phase-in, the rate of which is the smoothing year's; they take no adjustment.
+ * With an adjustment, be it 0, a post works two curves, the plain one and the adjusted one, and is turned down as a
+ * whole where either fails. The book holds one sheet's curves at a time, whichever market they are of. Look-ups and
+ * pages name their curve by kind: the adjusted one where bit 0 is set, else the plain one. A look-up also names what
+ * it wants of the year by kind: where bit 1 is set the sum of years 1 to that year, as an annuity of one a year has
+ * it, else the year's factor; a page ignores bit 1. All other bits are ignored. A look-up in a journal is of the
+ * plain curve's factor.
  *
  * The book holds for each of its curves, ready for look-ups, the sum of the lows and the sum of the highs of years 1 to t, for
  * every year t; each accepted post and withdrawal sets them with the curve.
@@ -26,14 +33,17 @@
  * before it, be it none, and the told month remains. Up to three posts can be taken back, one after another; a post where three
  * can be forgets only the oldest way back. Where no post is left to withdraw the answer is 18.
  *
- * This is the interface from U9 on, as it was: only, where rates, an ultimate rate or an adjustment of 0 make a logarithm or a
- * growth known, bands are narrower, and a post may be accepted that was turned down on 8 or 10. A sheet that passed passes.
- * From the annuity sums (U8) on bit 1 of a look-up's kind, ignored before, asks for the sum; no function has changed for it,
- * and no record of a journal asks for one. From U7 on a journal's 0x57, an unknown kind before, is a withdrawal; no function
- * has changed for it. From U6 on tuyqorem_look_after and tuyqorem_page_after have the parameter kind, and had not; a look-up's
- * reply has 28 bytes, and had 12 before U3. So a program is compiled with the header of the library that it is linked with. A
- * program leaves the bits of kind that have no meaning at 0, as bit 1 was to be left before. From U5 on a sheet's volume of 0
- * at 25, 30, 40 or 50 years drops the quote of that maturity; no function has changed for it.
+ * This is the interface from U10 on, as it was: only, a sheet may start with a profile record (0x08), by which it was
+ * turned down on 1 or 2 before, 19 is a new answer, and places of records count that record where it stands; no
+ * function has changed for it, and sheets that start with another byte are answered as they were. From U9 on, where
+ * rates, an ultimate rate or an adjustment of 0 make a logarithm or a growth known, bands are narrower, and a post
+ * may be accepted that was turned down on 8 or 10. A sheet that passed passes. From the annuity sums (U8) on bit 1 of
+ * a look-up's kind, ignored before, asks for the sum; no function has changed for it, and no record of a journal asks
+ * for one. From U7 on a journal's 0x57, an unknown kind before, is a withdrawal; no function has changed for it. From
+ * U6 on tuyqorem_look_after and tuyqorem_page_after have the parameter kind, and had not; a look-up's reply has 28
+ * bytes, and had 12 before U3. So a program is compiled with the header of the library that it is linked with. A
+ * program leaves the bits of kind that have no meaning at 0, as bit 1 was to be left before. From U5 on a sheet's
+ * volume of 0 at 25, 30, 40 or 50 years drops the quote of that maturity; no function has changed for it.
  *
  * It is proved of tuyqorem_look_after and tuyqorem_page_after, for every age limit, every journal and every kind: no curve is
  * found exactly when no post of the journal is accepted and not withdrawn or, for the adjusted one, when the last such sheet has
@@ -81,7 +91,7 @@ uint64_t tuyqorem_page_after(uint64_t age_limit, const uint8_t *calls, size_t ca
 
 /* The answer that one more call gets after the journal's calls: for programs that keep a journal and must say why a sheet
  * was turned down. The call is the first record of call, written as in a journal; the bytes past it are ignored. Returns
- * 0 where it is accepted. Otherwise the answer is number + 256 * place: the number, 1 to 14 or 16 to 18, of the first ground that
+ * 0 where it is accepted. Otherwise the answer is number + 256 * place: the number, 1 to 14 or 16 to 19, of the first ground that
  * applies (docs/SPECIFICATION.md, section 9), and the record, year or maturity that it names, 0 where it names none; or
  * 255, where call starts with no whole record: it is empty, its kind is unknown or its body is cut. */
 uint64_t tuyqorem_answer_after(uint64_t age_limit, const uint8_t *calls, size_t calls_len, const uint8_t *call,

@@ -15,16 +15,26 @@
 #define RATE_UNIT INT64_C(100000)
 #define PAR (RATE_UNIT * U)
 
-/* A sheet's bytes without a tail, and those of each record that a tail may have. */
-enum { SHEET = 109, TAIL_RECORD = 3 };
+/* The bytes of a profile record, and those of each record that a tail may have. */
+enum { PROFILE_RECORD = 2, TAIL_RECORD = 3 };
 
-enum { QUOTES = 17, VOLUMES = 5, SMOOTHING = 20, LAST_QUOTE = 50, YEARS = 150, LAST_MONTH = 2399 };
+/* As many quotes, volumes and so on as any market has. */
+enum { QUOTES = 17, VOLUMES = 5, LAST_QUOTE = 50, YEARS = 150, EXTRAPOLATED = 140, LAST_MONTH = 2399 };
 
+/* A market quotes the first of these. */
 static const int maturities[QUOTES] = {1, 2, 3, 4, 5, 6, 7, 8, 9, 10, 12, 15, 20, 25, 30, 40, 50};
-static const int volume_maturities[VOLUMES] = {20, 25, 30, 40, 50};
 
-/* The index of maturity 20, whose gap is the first with a forward that is used. */
-enum { QUOTE_20 = 12, FIRST_FORWARD = QUOTE_20 };
+/* How many maturities a market quotes, those with a volume being the last ones from its smoothing year on. */
+typedef struct {
+    int quotes, volumes, smoothing_year;
+    bool takes_adjustment;
+} Market;
+
+/* By profile; the euro is the first also without a record. */
+static const Market markets[] = {{17, 5, 20, true}, {10, 1, 10, false}, {12, 1, 15, false}};
+
+/* The index of the smoothing year's quote, whose forward is the first that is used. */
+static int smoothing_quote(const Market *market) { return market->quotes - market->volumes; }
 
 /* The convergence factor at which the table holds, in hundred-millionths, and X of a sheet without one. */
 enum { TEN_PERCENT = 10000000, DEFAULT_X = 10000 };
@@ -39,6 +49,7 @@ typedef struct {
 } Ground;
 
 typedef struct {
+    const Market *market;
     int month, rates[QUOTES], ufr, x, adjustment;
     int64_t volumes[VOLUMES], limit;
     bool is_adjusted; /* whether it has an adjustment, be it 0 */
@@ -94,78 +105,112 @@ static int two_bytes(const uint8_t *at) { return at[0] << 8 | at[1]; }
 
 static int64_t four_bytes(const uint8_t *at) { return (int64_t)two_bytes(at) << 16 | two_bytes(at + 2); }
 
-static int rate_start(int j) { return 3 + 4 * j; }
-
-static int volume_start(int j) { return 71 + 6 * j; }
-
-enum { UFR_START = 101, LIMIT_START = 104 };
-
-/* Where the records of the tail start; 0 where the sheet has none. */
+/* Where the records of a sheet start. Those of the tail are 0 where the sheet has none. */
 typedef struct {
+    const Market *market;
+    int first; /* the month's */
     int x, adjustment;
-} Tail;
+} Layout;
 
-/* One record alone is the adjustment's if its kind says so, and else the phase-in's. */
-static Tail tail(const uint8_t *bytes, size_t length) {
-    Tail tail = {0, 0};
-    if (length == SHEET + 2 * TAIL_RECORD)
-        tail = (Tail){SHEET, SHEET + TAIL_RECORD};
-    else if (length == SHEET + TAIL_RECORD)
-        *(bytes[SHEET] == 7 ? &tail.adjustment : &tail.x) = SHEET;
-    return tail;
+static int rate_start(const Layout *at, int j) { return at->first + 3 + 4 * j; }
+
+static int volume_start(const Layout *at, int j) { return rate_start(at, at->market->quotes) + 6 * j; }
+
+static int ufr_start(const Layout *at) { return volume_start(at, at->market->volumes); }
+
+static int limit_start(const Layout *at) { return ufr_start(at) + 3; }
+
+static int tail_start(const Layout *at) { return limit_start(at) + 5; }
+
+/* The place of the record so many behind the month's. */
+static int place(const Layout *at, int behind) { return (at->first > 0) + 1 + behind; }
+
+static int rate_place(const Layout *at, int j) { return place(at, 1 + j); }
+
+static int volume_place(const Layout *at, int j) { return rate_place(at, at->market->quotes + j); }
+
+static int ufr_place(const Layout *at) { return volume_place(at, at->market->volumes); }
+
+static int tail_place(const Layout *at, int start) {
+    return ufr_place(at) + 2 + (start - tail_start(at)) / TAIL_RECORD;
 }
 
-/* The place of the tail's record that starts there. */
-static int tail_place(int start) { return 26 + (start - SHEET) / TAIL_RECORD; }
-
-static bool starts(const uint8_t *record, int kind, int maturity) { return record[0] == kind && record[1] == maturity; }
-
-static Ground check_kinds(const uint8_t *bytes, Tail tail) {
-    if (bytes[0] != 1) return ground(2, 1);
-    for (int j = 0; j < QUOTES; j++)
-        if (!starts(bytes + rate_start(j), 2, maturities[j])) return ground(2, 2 + j);
-    for (int j = 0; j < VOLUMES; j++)
-        if (!starts(bytes + volume_start(j), 3, volume_maturities[j])) return ground(2, 19 + j);
-    if (bytes[UFR_START] != 4) return ground(2, 24);
-    if (bytes[LIMIT_START] != 5) return ground(2, 25);
-    if (tail.x && bytes[tail.x] != 6) return ground(2, tail_place(tail.x));
-    if (tail.adjustment && bytes[tail.adjustment] != 7) return ground(2, tail_place(tail.adjustment));
+/* Ground 19. A lone kind byte is too short for any market. */
+static Ground find_market(const uint8_t *bytes, size_t length, Layout *at) {
+    bool named = length >= PROFILE_RECORD && bytes[0] == 8;
+    if (named && (bytes[1] < 1 || bytes[1] > 3)) return ground(19, 0);
+    *at = (Layout){&markets[named ? bytes[1] - 1 : 0], named ? PROFILE_RECORD : 0, 0, 0};
     return none;
 }
 
-static Sheet numbers(const uint8_t *bytes, Tail tail) {
-    Sheet sheet;
-    sheet.month = two_bytes(bytes + 1);
-    for (int j = 0; j < QUOTES; j++) sheet.rates[j] = (int16_t)two_bytes(bytes + rate_start(j) + 2);
-    for (int j = 0; j < VOLUMES; j++) sheet.volumes[j] = four_bytes(bytes + volume_start(j) + 2);
-    sheet.ufr = two_bytes(bytes + UFR_START + 1);
-    sheet.limit = four_bytes(bytes + LIMIT_START + 1);
-    sheet.x = tail.x ? two_bytes(bytes + tail.x + 1) : DEFAULT_X;
-    sheet.is_adjusted = tail.adjustment != 0;
-    sheet.adjustment = sheet.is_adjusted ? (int16_t)two_bytes(bytes + tail.adjustment + 1) : 0;
+/* Ground 1. One record alone in the tail is the adjustment's if its kind says so and the market takes one, and else the
+ * phase-in's. */
+static Ground find_tail(const uint8_t *bytes, size_t length, Layout *at) {
+    size_t start = (size_t)tail_start(at);
+    bool adjusts = at->market->takes_adjustment;
+    if (length == start) return none;
+    if (length == start + TAIL_RECORD)
+        *(adjusts && bytes[start] == 7 ? &at->adjustment : &at->x) = tail_start(at);
+    else if (adjusts && length == start + 2 * TAIL_RECORD)
+        at->x = tail_start(at), at->adjustment = at->x + TAIL_RECORD;
+    else
+        return ground(1, 0);
+    return none;
+}
+
+static bool starts(const uint8_t *record, int kind, int maturity) { return record[0] == kind && record[1] == maturity; }
+
+static Ground check_kinds(const uint8_t *bytes, const Layout *at) {
+    const Market *market = at->market;
+    if (bytes[at->first] != 1) return ground(2, place(at, 0));
+    for (int j = 0; j < market->quotes; j++)
+        if (!starts(bytes + rate_start(at, j), 2, maturities[j])) return ground(2, rate_place(at, j));
+    for (int j = 0; j < market->volumes; j++)
+        if (!starts(bytes + volume_start(at, j), 3, maturities[smoothing_quote(market) + j]))
+            return ground(2, volume_place(at, j));
+    if (bytes[ufr_start(at)] != 4) return ground(2, ufr_place(at));
+    if (bytes[limit_start(at)] != 5) return ground(2, ufr_place(at) + 1);
+    if (at->x && bytes[at->x] != 6) return ground(2, tail_place(at, at->x));
+    if (at->adjustment && bytes[at->adjustment] != 7) return ground(2, tail_place(at, at->adjustment));
+    return none;
+}
+
+static Sheet numbers(const uint8_t *bytes, const Layout *at) {
+    Sheet sheet = {.market = at->market};
+    sheet.month = two_bytes(bytes + at->first + 1);
+    for (int j = 0; j < at->market->quotes; j++) sheet.rates[j] = (int16_t)two_bytes(bytes + rate_start(at, j) + 2);
+    for (int j = 0; j < at->market->volumes; j++) sheet.volumes[j] = four_bytes(bytes + volume_start(at, j) + 2);
+    sheet.ufr = two_bytes(bytes + ufr_start(at) + 1);
+    sheet.limit = four_bytes(bytes + limit_start(at) + 1);
+    sheet.x = at->x ? two_bytes(bytes + at->x + 1) : DEFAULT_X;
+    sheet.is_adjusted = at->adjustment != 0;
+    sheet.adjustment = sheet.is_adjusted ? (int16_t)two_bytes(bytes + at->adjustment + 1) : 0;
     return sheet;
 }
 
-static Ground check_ranges(const Sheet *sheet, Tail tail) {
-    if (sheet->month > LAST_MONTH) return ground(3, 1);
-    for (int j = 0; j < QUOTES; j++)
-        if (sheet->rates[j] < -2000 || sheet->rates[j] > 12000) return ground(3, 2 + j);
-    for (int j = 0; j < VOLUMES; j++)
-        if (sheet->volumes[j] > 1000000) return ground(3, 19 + j);
-    if (sheet->ufr > 10000) return ground(3, 24);
-    if (sheet->limit < 1 || sheet->limit > 100000) return ground(3, 25);
-    if (sheet->x < 10000 || sheet->x > 20000) return ground(3, tail_place(tail.x));
-    if (sheet->adjustment < -500 || sheet->adjustment > 500) return ground(3, tail_place(tail.adjustment));
+static Ground check_ranges(const Sheet *sheet, const Layout *at) {
+    if (sheet->month > LAST_MONTH) return ground(3, place(at, 0));
+    for (int j = 0; j < at->market->quotes; j++)
+        if (sheet->rates[j] < -2000 || sheet->rates[j] > 12000) return ground(3, rate_place(at, j));
+    for (int j = 0; j < at->market->volumes; j++)
+        if (sheet->volumes[j] > 1000000) return ground(3, volume_place(at, j));
+    if (sheet->ufr > 10000) return ground(3, ufr_place(at));
+    if (sheet->limit < 1 || sheet->limit > 100000) return ground(3, ufr_place(at) + 1);
+    if (sheet->x < 10000 || sheet->x > 20000) return ground(3, tail_place(at, at->x));
+    if (sheet->adjustment < -500 || sheet->adjustment > 500) return ground(3, tail_place(at, at->adjustment));
     return none;
 }
 
 static Ground read_sheet(const uint8_t *bytes, size_t length, Sheet *sheet) {
-    if (length != SHEET && length != SHEET + TAIL_RECORD && length != SHEET + 2 * TAIL_RECORD) return ground(1, 0);
-    Tail records = tail(bytes, length);
-    Ground found = check_kinds(bytes, records);
+    Layout at;
+    Ground found = find_market(bytes, length, &at);
     if (found.number) return found;
-    *sheet = numbers(bytes, records);
-    found = check_ranges(sheet, records);
+    found = find_tail(bytes, length, &at);
+    if (found.number) return found;
+    found = check_kinds(bytes, &at);
+    if (found.number) return found;
+    *sheet = numbers(bytes, &at);
+    found = check_ranges(sheet, &at);
     if (found.number) return found;
     int64_t traded = 0;
     for (int j = 0; j < VOLUMES; j++) traded += sheet->volumes[j];
@@ -276,8 +321,9 @@ static int64_t high_x(const Gap *gap) {
     return high;
 }
 
-/* Years 1 to 50 as far as they are worked. The forwards are those of gaps 15-20, 20-25, 25-30, 30-40 and 40-50, as far as
- * they are worked: a gap that runs on has the same one in each of these. */
+/* Years 1 to 50 as far as they are worked. The forwards are the last one before the smoothing year and, of the euro,
+ * those of gaps 20-25, 25-30, 30-40 and 40-50, as far as they are worked: a gap that runs on has the same one in each
+ * of these. */
 typedef struct {
     int worked, forwards_worked;
     Pair factors[LAST_QUOTE + 1], sum, forwards[VOLUMES];
@@ -307,6 +353,13 @@ static Ground add_gap(Quoted *quoted, int years, int64_t rate, Pair *x) {
         if (found.number) return found;
     }
     return none;
+}
+
+/* The last year over the one before it, where it is no gap. */
+static Ground single_year(const Quoted *quoted, Pair *x) {
+    Pair last = quoted->factors[quoted->worked], before = quoted->factors[quoted->worked - 1];
+    *x = (Pair){over_down(last.low * U, before.high), over_up(last.high * U, before.low)};
+    return x->low < lower_end || x->high > upper_end ? ground(9, quoted->worked) : none;
 }
 
 /* Logarithm and growth [4]. To their highs 1 is added, but not where the value is known: at U and at 0. */
@@ -345,27 +398,30 @@ static int64_t growth_high(int64_t y) {
     return sum + (y != 0);
 }
 
-/* A quote beyond 20 without volume is not used. */
-static bool dropped(const Sheet *sheet, int quote) { return quote > QUOTE_20 && sheet->volumes[quote - QUOTE_20] == 0; }
+/* A quote beyond the smoothing year without volume is not used. */
+static bool dropped(const Sheet *sheet, int quote) {
+    int later = quote - smoothing_quote(sheet->market);
+    return later > 0 && sheet->volumes[later] == 0;
+}
 
 static Ground work_quotes(const Sheet *sheet, Quoted *quoted) {
     Ground found = none;
+    int first_forward = smoothing_quote(sheet->market);
     quoted->worked = quoted->forwards_worked = 0;
     quoted->sum.low = quoted->sum.high = 0;
-    for (int j = 0; j < QUOTES; j++) {
+    for (int j = 0; j < sheet->market->quotes; j++) {
         if (dropped(sheet, j)) continue;
         int years = maturities[j] - quoted->worked;
-        if (years > 1) {
-            Pair x;
-            found = add_gap(quoted, years, sheet->rates[j], &x);
-            if (found.number) return found;
-            if (j >= FIRST_FORWARD) {
-                Pair forward = {log_low(x.high), log_high(x.low)};
-                while (quoted->forwards_worked <= j - FIRST_FORWARD) quoted->forwards[quoted->forwards_worked++] = forward;
-            }
-        }
+        Pair x = {U, U};
+        if (years > 1) found = add_gap(quoted, years, sheet->rates[j], &x);
+        if (found.number) return found;
         found = add_year(quoted, by_par(sheet->rates[j], quoted->sum));
         if (found.number) return found;
+        if (j < first_forward) continue;
+        if (years == 1) found = single_year(quoted, &x);
+        if (found.number) return found;
+        Pair forward = {log_low(x.high), log_high(x.low)};
+        while (quoted->forwards_worked <= j - first_forward) quoted->forwards[quoted->forwards_worked++] = forward;
     }
     /* The rest has no weight. */
     while (quoted->forwards_worked < VOLUMES) quoted->forwards[quoted->forwards_worked++] = (Pair){0, 0};
@@ -373,8 +429,6 @@ static Ground work_quotes(const Sheet *sheet, Quoted *quoted) {
 }
 
 /* Extrapolated years [5]. */
-
-enum { EXTRAPOLATED = YEARS - SMOOTHING };
 
 /* The ends of k(h), by h; 0 is not used. */
 typedef struct {
@@ -393,7 +447,7 @@ static void fill_table(void) {
 
 /* a, in hundred-millionths. */
 static int64_t convergence(const Sheet *sheet) {
-    int rate = sheet->rates[QUOTE_20], cut = rate < -500 ? -500 : rate > 500 ? 500 : rate;
+    int rate = sheet->rates[smoothing_quote(sheet->market)], cut = rate < -500 ? -500 : rate > 500 ? 500 : rate;
     return TEN_PERCENT + (int64_t)(sheet->x - DEFAULT_X) * (500 - cut);
 }
 
@@ -444,8 +498,9 @@ static int64_t next_high(int64_t high, int64_t f) {
     return f >= 0 ? over_up(high * U, growth_low(f)) : times_up(high, growth_high(-f));
 }
 
-/* What both curves of a sheet go on with past year 20. */
+/* What both curves of a sheet go on with past the smoothing year. */
 typedef struct {
+    int smoothing_year;
     Pair l;
     const Pair *weights;
     Weights worked; /* where the weights are not the table's */
@@ -453,22 +508,23 @@ typedef struct {
 
 static void work_beyond(const Sheet *sheet, Beyond *beyond) {
     int64_t ultimate = U + 10000 * (int64_t)sheet->ufr, a = convergence(sheet);
+    beyond->smoothing_year = sheet->market->smoothing_year;
     beyond->l = (Pair){-log_high(ultimate), -log_low(ultimate)};
     if (a != TEN_PERCENT) work_weights(a, &beyond->worked);
     beyond->weights = a == TEN_PERCENT ? table.at : beyond->worked.at;
 }
 
 static Ground extrapolate(const Beyond *beyond, Pair llfr, Pair *factors) {
-    for (int h = 1; h <= EXTRAPOLATED; h++) {
-        Pair before = factors[SMOOTHING + h - 1], forward = year_forward(beyond->l, llfr, beyond->weights[h]);
+    for (int h = 1, year = beyond->smoothing_year + 1; year <= YEARS; h++, year++) {
+        Pair before = factors[year - 1], forward = year_forward(beyond->l, llfr, beyond->weights[h]);
         Pair factor = {next_low(before.low, forward.high), next_high(before.high, forward.low)};
-        if (factor.high > 2 * U) return ground(8, SMOOTHING + h);
-        factors[SMOOTHING + h] = factor;
+        if (factor.high > 2 * U) return ground(8, year);
+        factors[year] = factor;
     }
     return none;
 }
 
-/* From the curve's years to 20 on. */
+/* From the curve's years to the smoothing year on. */
 static Ground go_on(const Sheet *sheet, const Beyond *beyond, const Pair *forwards, Curve *curve) {
     Ground found = extrapolate(beyond, last_liquid_forward(sheet->volumes, forwards), curve->factors);
     if (found.number) return found;
@@ -477,7 +533,7 @@ static Ground go_on(const Sheet *sheet, const Beyond *beyond, const Pair *forwar
     return none;
 }
 
-/* The adjusted curve. Each of its steps to 20 has the same growth, which is worked once. */
+/* The adjusted curve, which is the euro's alone. Each of its steps to 20 has the same growth, which is worked once. */
 
 static int64_t low_after(int64_t low, int64_t f, int64_t growth, int years) {
     for (int year = 0; year < years; year++) low = f >= 0 ? over_down(low * U, growth) : times_down(low, growth);
@@ -489,9 +545,9 @@ static int64_t high_after(int64_t high, int64_t f, int64_t growth, int years) {
     return high;
 }
 
-static Ground adjust_years(int64_t f, const Pair *plain, Pair *adjusted) {
+static Ground adjust_years(int64_t f, int smoothing_year, const Pair *plain, Pair *adjusted) {
     int64_t for_low = f >= 0 ? growth_high(f) : growth_low(-f), for_high = f >= 0 ? growth_low(f) : growth_high(-f);
-    for (int year = 1; year <= SMOOTHING; year++) {
+    for (int year = 1; year <= smoothing_year; year++) {
         adjusted[year].low = low_after(plain[year].low, f, for_low, year);
         adjusted[year].high = high_after(plain[year].high, f, for_high, year);
         if (adjusted[year].high > 2 * U) return ground(8, year);
@@ -501,7 +557,7 @@ static Ground adjust_years(int64_t f, const Pair *plain, Pair *adjusted) {
 
 static Ground work_adjusted(const Sheet *sheet, const Beyond *beyond, Quoted *quoted, Curve *adjusted) {
     int64_t f = 10000 * (int64_t)sheet->adjustment;
-    Ground found = adjust_years(f, quoted->factors, adjusted->factors);
+    Ground found = adjust_years(f, beyond->smoothing_year, quoted->factors, adjusted->factors);
     if (found.number) return found;
     quoted->forwards[0].low += f;
     quoted->forwards[0].high += f;
@@ -514,7 +570,7 @@ static Ground work_curves(const Sheet *sheet, Curve *plain, Curve *adjusted) {
     Ground found = work_quotes(sheet, &quoted);
     if (found.number) return found;
     work_beyond(sheet, &beyond);
-    for (int year = 1; year <= SMOOTHING; year++) plain->factors[year] = quoted.factors[year];
+    for (int year = 1; year <= beyond.smoothing_year; year++) plain->factors[year] = quoted.factors[year];
     found = go_on(sheet, &beyond, quoted.forwards, plain);
     if (found.number || !sheet->is_adjusted) return found;
     return work_adjusted(sheet, &beyond, &quoted, adjusted);

@@ -9,6 +9,7 @@ use reference::book::{Book, Found, PAGE_LENGTH};
 use reference::curve::{Which, YEARS};
 use reference::desk::LOOK_UP;
 use reference::journal::{answer_on, book_after, calls, look_up_by, WITHDRAWAL};
+use reference::market::Market;
 use reference::questions::curve_age;
 use reference::refusal::Refusal;
 use reference::streams::Random;
@@ -36,6 +37,9 @@ const NO_HIGH_RATE: u64 = 17;
 
 /// The ground of a withdrawal where no post is left to withdraw.
 const NOTHING_TO_WITHDRAW: u64 = 18;
+
+/// The ground of a profile record that names no market.
+const NO_PROFILE: u64 = 19;
 
 /// What a lent buffer of this length holds: seeded bytes, among which those that were written
 /// or moved from elsewhere in the buffer are seen.
@@ -262,6 +266,12 @@ impl<'a> Case<'a> {
         self.age
     }
 
+    /// The profile of the sheet that the count holds, if it holds one.
+    fn profile(&self) -> Option<u8> {
+        let sheet = self.count.sheet();
+        sheet.map(|sheet| sheet.market().profile)
+    }
+
     /// The answer that both give, or how they differ in it or in the buffer they leave; or that
     /// they agree against the count.
     pub fn ask(&self, question: &Question) -> Result<u64, String> {
@@ -358,11 +368,13 @@ fn eight_bytes(value: i128) -> [u8; 8] {
         .to_be_bytes()
 }
 
-/// How often each kind of question met each number, adjusted curves that were missing beside a
-/// plain one, and curves at the limit and just past it.
+/// How often each kind of question met each number, in all and by the profile of the curve that
+/// stood, adjusted curves that were missing beside a plain one, and curves at the limit and just past
+/// it.
 #[derive(Default)]
 pub struct Met {
     numbers: BTreeMap<(Kind, u64), u64>,
+    by_profile: BTreeMap<(u8, Kind, u64), u64>,
     missing_beside_plain: u64,
     shown_at_the_limit: u64,
     a_month_past_it: u64,
@@ -374,6 +386,10 @@ impl Met {
         let answer = case.ask(question)?;
         let number = answer % 256;
         *self.numbers.entry((question.kind(), number)).or_default() += 1;
+        if let Some(profile) = case.profile() {
+            let met = (profile, question.kind(), number);
+            *self.by_profile.entry(met).or_default() += 1;
+        }
         if number == NO_CURVE && case.age.is_some() {
             self.missing_beside_plain += 1;
         }
@@ -406,7 +422,55 @@ impl Met {
         }
         Ok(())
     }
+
+    /// How often questions of this kind met this number where a curve of this profile stood.
+    pub fn where_stood(&self, profile: u8, kind: Kind, number: u64) -> u64 {
+        let times = self.by_profile.get(&(profile, kind, number));
+        times.copied().unwrap_or_default()
+    }
+
+    /// Says what was not met of markets: factors, sums and pages of each one's curve that were shown
+    /// and that were too old, adjusted curves that the smaller ones do not have, withdrawals of each
+    /// one's curve, and an unknown profile.
+    pub fn check_markets(&self) -> Result<(), String> {
+        for market in Market::ALL {
+            let due = MARKET_ANSWERS.iter().chain(match market.takes_adjustment {
+                true => &[],
+                false => &NO_ADJUSTED[..],
+            });
+            for &(kind, number) in due {
+                if self.where_stood(market.profile, kind, number) == 0 {
+                    let profile = market.profile;
+                    return Err(format!(
+                        "ground {number} was not met by {kind} on a curve of profile {profile}"
+                    ));
+                }
+            }
+        }
+        match self.numbers.get(&(Kind::Answer, NO_PROFILE)) {
+            None => Err("no post was answered with 19".to_string()),
+            Some(_) => Ok(()),
+        }
+    }
 }
+
+/// The answers that must be met on a curve of every market.
+const MARKET_ANSWERS: [(Kind, u64); 7] = [
+    (Kind::LookUp(Which::Plain), 0),
+    (Kind::Sum(Which::Plain), 0),
+    (Kind::Page(Which::Plain), 0),
+    (Kind::LookUp(Which::Plain), TOO_OLD),
+    (Kind::Sum(Which::Plain), TOO_OLD),
+    (Kind::Page(Which::Plain), TOO_OLD),
+    (Kind::Withdrawal, 0),
+];
+
+/// The answers that must be met on a curve of a market without adjustments.
+const NO_ADJUSTED: [(Kind, u64); 3] = [
+    (Kind::LookUp(Which::Adjusted), NO_CURVE),
+    (Kind::Sum(Which::Adjusted), NO_CURVE),
+    (Kind::Page(Which::Adjusted), NO_CURVE),
+];
 
 /// A line for each kind that was asked, with `number × times` of each number that it met.
 impl fmt::Display for Met {
@@ -419,6 +483,17 @@ impl fmt::Display for Met {
             if !met.is_empty() {
                 writeln!(f, "{kind}: {}", met.join(", "))?;
             }
+        }
+        for market in Market::ALL {
+            let profile = market.profile;
+            let shown = MARKET_ANSWERS[..3].iter();
+            let shown = shown.map(|&(kind, number)| self.where_stood(profile, kind, number));
+            let shown: Vec<_> = shown.map(|times| times.to_string()).collect();
+            let shown = shown.join(", ");
+            writeln!(
+                f,
+                "factors, sums and pages shown of a curve of profile {profile}: {shown}"
+            )?;
         }
         write!(
             f,

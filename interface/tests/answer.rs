@@ -34,7 +34,7 @@ fn every_answer() -> Vec<(u8, u64)> {
         of(0, &[255]),
         of(0x4C, &[0, 13, 14, 16, 17, 255]),
         of(0x4D, &[0, 11, 12, 255]),
-        of(0x50, &[0, 1, 2, 3, 4, 5, 6, 7, 8, 9, 10, 255]),
+        of(0x50, &[0, 1, 2, 3, 4, 5, 6, 7, 8, 9, 10, 19, 255]),
         of(0x57, &[0, 18]),
     ]
     .concat()
@@ -81,6 +81,9 @@ fn every_ground_is_answered_with_its_place() {
         assert_eq!(answer(journal, &record), expected, "at {at}");
         assert_eq!(answer(journal, rest), expected, "the rest is ignored");
         for length in 0..record.len() {
+            // After the whole journal only some: it is replayed for each.
+            let tried = length < 3 || length + 1 == record.len() || length % 31 == 0;
+            let journal = if tried { journal } else { &[] };
             assert_eq!(answer(journal, &record[..length]), NO_RECORD);
         }
         at += record.len();

@@ -28,6 +28,7 @@ const DROPPABLE: [(usize, usize); 4] = [(13, 1), (14, 2), (15, 3), (16, 4)];
 
 fn sheet(rates: [i16; 17], volumes: [u32; 5]) -> Sheet {
     Sheet {
+        profile: None,
         month: 0,
         rates,
         volumes,

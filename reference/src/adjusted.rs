@@ -8,8 +8,9 @@ use crate::convergence::X_OUTSIDE_PHASE_IN;
 use crate::counts::Tally;
 use crate::curve::{Curve, Curves};
 use crate::dropped::dropped_sheet;
-use crate::extrapolation::FIRST_SMOOTHING_POINT;
-use crate::sheet::{Sheet, QUOTE_20};
+use crate::market::QUOTE_20;
+use crate::profiled::PROFILE;
+use crate::sheet::Sheet;
 use crate::streams::{
     edge, quote, sheet, sheet_bytes, steep_sheet, widest_band, worked, Random, LARGEST_LIMIT,
     REQUIRED_LENGTH,
@@ -76,6 +77,7 @@ fn high_sheet(random: &mut Random, month: u16) -> Sheet {
     // The forward of 15-20, which alone gains the adjustment, has nearly all of the weight.
     let later = random.between(1, 20_000) as u32;
     let mut sheet = Sheet {
+        profile: None,
         month,
         rates,
         volumes: [1_000_000, later, 1, later, 1],
@@ -161,12 +163,12 @@ fn outside(random: &mut Random) -> i64 {
     }
 }
 
-fn phase_in_record(x: i64) -> [u8; 3] {
+pub(crate) fn phase_in_record(x: i64) -> [u8; 3] {
     let [high, low] = (x as u16).to_be_bytes();
     [0x06, high, low]
 }
 
-fn adjustment_record(adjustment: i64) -> [u8; 3] {
+pub(crate) fn adjustment_record(adjustment: i64) -> [u8; 3] {
     let [high, low] = (adjustment as i16).to_be_bytes();
     [0x07, high, low]
 }
@@ -187,11 +189,16 @@ impl Tail {
         Tail::new(true, true),
     ];
 
-    const fn new(phase_in: bool, adjustment: bool) -> Self {
+    pub const fn new(phase_in: bool, adjustment: bool) -> Self {
         Tail {
             phase_in,
             adjustment,
         }
+    }
+
+    /// That of a sheet.
+    pub fn of(sheet: &Sheet) -> Self {
+        Tail::new(sheet.phase_in.is_some(), sheet.adjustment.is_some())
     }
 }
 
@@ -246,8 +253,12 @@ pub struct AdjustedPosts {
 }
 
 impl AdjustedPosts {
-    /// Counts a post that brought these bytes and was answered with this number, 0 if accepted.
+    /// Counts a post that brought these bytes and was answered with this number, 0 if accepted. One
+    /// that names its profile is not counted here: its records have other places.
     pub fn count(&mut self, bytes: &[u8], number: u8) {
+        if bytes.first() == Some(&PROFILE) {
+            return;
+        }
         match Sheet::read(bytes) {
             Ok(sheet) => self.count_sheet(&sheet, number),
             Err(refusal) => {
@@ -261,7 +272,7 @@ impl AdjustedPosts {
 
     fn count_sheet(&mut self, sheet: &Sheet, number: u8) {
         let accepted = number == 0;
-        let tail = Tail::new(sheet.phase_in.is_some(), sheet.adjustment.is_some());
+        let tail = Tail::of(sheet);
         self.by_tail.entry(tail).or_default().count(accepted);
         if let Some(adjustment) = sheet.adjustment {
             let tally = self.by_adjustment.entry(adjustment).or_default();
@@ -277,7 +288,7 @@ impl AdjustedPosts {
         let (Ok(_), Err(refusal)) = (Curve::plain(sheet), Curves::of(sheet)) else {
             return;
         };
-        let to_20 = usize::from(refusal.place) <= FIRST_SMOOTHING_POINT;
+        let to_20 = usize::from(refusal.place) <= sheet.market().smoothing_year();
         let alone = match (refusal.number, to_20) {
             (8, _) => Alone::High,
             (_, true) => Alone::WidthTo20,

@@ -1,10 +1,11 @@
-//! The volatility adjustment: added to the forwards up to year 20 and, in LLFR, to that of 15-20
-//! alone.
+//! The volatility adjustment: added to the forwards up to the smoothing year and, in LLFR, to the
+//! last one before it alone.
 
 use crate::bootstrap::checked_high;
 use crate::enclosure::{Enclosure, RATE_STEP};
 use crate::extrapolation::next_factor;
 use crate::forwards::YearForwards;
+use crate::market::Market;
 use crate::refusal::Refusal;
 use crate::series::AtKnown;
 
@@ -35,6 +36,6 @@ pub fn adjusted_factors_with(
 }
 
 /// The forwards from which the adjusted curve's LLFR comes.
-pub fn adjusted_forwards(plain: &YearForwards, adjustment: i16) -> YearForwards {
-    plain.with_first_gap_moved(gain(adjustment))
+pub fn adjusted_forwards(market: Market, plain: &YearForwards, adjustment: i16) -> YearForwards {
+    plain.with_gain(market.years_before_smoothing(), gain(adjustment))
 }

@@ -125,7 +125,7 @@ impl Book {
     }
 
     /// Replaces the curves and their sums by those of the sheet in `bytes` and hands back its month,
-    /// or refuses on the first of grounds 1 to 10 and leaves the book unchanged: no plain curve
+    /// or refuses on the first of grounds 19 and 1 to 10 and leaves the book unchanged: no plain curve
     /// is kept where the adjusted one fails, and no adjusted one where the sheet has none. A
     /// curve that is too old to be shown still stands in ground 6.
     pub fn post(&mut self, bytes: &[u8]) -> Result<u16, Refusal> {

@@ -1,34 +1,35 @@
-//! Discount factors from the par rates that are used, up to year 50, with grounds 7 to 9.
+//! Discount factors from the par rates that are used, with grounds 7 to 9.
 
 use crate::enclosure::{div_down, div_up, Enclosure, RATE_UNIT, U};
-use crate::extrapolation::FIRST_SMOOTHING_POINT;
-use crate::forwards::{YearForwards, FIRST_FORWARD_YEAR};
+use crate::forwards::YearForwards;
+use crate::market::Market;
 use crate::refusal::Refusal;
 use crate::series::AtKnown;
-use crate::sheet::{Sheet, MATURITIES, QUOTE_20};
+use crate::sheet::Sheet;
 
 /// Value of a swap's fixed leg at par.
 const PAR: i128 = RATE_UNIT * U;
 
-/// The ends between which a gap's yearly factor is sought.
-const LOWEST_YEARLY_FACTOR: i128 = 800_000_000;
-const HIGHEST_YEARLY_FACTOR: i128 = 1_100_000_000;
+/// The ends between which a gap's yearly factor is sought, and that of a single year must lie.
+pub const LOWEST_YEARLY_FACTOR: i128 = 800_000_000;
+pub const HIGHEST_YEARLY_FACTOR: i128 = 1_100_000_000;
 
 /// The largest allowed high of a discount factor.
 const LARGEST_HIGH: i128 = 2 * U;
 
 /// The result of the bootstrap.
 pub struct Bootstrap {
-    /// Discount factors of year 1 to the last maturity whose quote is used, 20 to 50.
+    pub market: Market,
+    /// Discount factors of year 1 to the last maturity whose quote is used.
     pub factors: Vec<Enclosure>,
-    /// Forwards of the same years from 16 on.
+    /// Forwards of the same years from the last ones before smoothing starts on.
     pub forwards: YearForwards,
 }
 
 impl Bootstrap {
-    /// The factors of years 1 to 20, which are on the curve.
+    /// The factors of years 1 to the smoothing year, which are on the curve.
     pub fn liquid(&self) -> &[Enclosure] {
-        &self.factors[..FIRST_SMOOTHING_POINT]
+        &self.factors[..self.market.smoothing_year()]
     }
 }
 
@@ -39,14 +40,18 @@ pub struct Quote {
     pub rate: i128,
 }
 
-/// The quotes that are used, by maturity. Beyond 20 one without volume is dropped; 20 itself
-/// never is, since its volume is no more than a weight.
+/// The quotes that are used, by maturity. Beyond the smoothing year one without volume is dropped;
+/// that year itself never is, since its volume is no more than a weight.
 pub fn used_quotes(sheet: &Sheet) -> impl Iterator<Item = Quote> + '_ {
-    let used = |&i: &usize| i <= QUOTE_20 || sheet.volumes[i - QUOTE_20] > 0;
-    (0..MATURITIES.len()).filter(used).map(|i| Quote {
-        maturity: usize::from(MATURITIES[i]),
-        rate: i128::from(sheet.rates[i]),
-    })
+    let market = sheet.market();
+    let smoothing = market.smoothing_quote();
+    let used = move |&i: &usize| i <= smoothing || sheet.volumes[i - smoothing] > 0;
+    (0..market.maturities.len())
+        .filter(used)
+        .map(move |i| Quote {
+            maturity: usize::from(market.maturities[i]),
+            rate: i128::from(sheet.rates[i]),
+        })
 }
 
 /// The years worked so far and the sum of their factors.
@@ -76,22 +81,23 @@ pub fn bootstrap(sheet: &Sheet) -> Result<Bootstrap, Refusal> {
 
 /// The same under either rule for known values, which only the forwards go by.
 pub fn bootstrap_with(sheet: &Sheet, at_known: AtKnown) -> Result<Bootstrap, Refusal> {
+    let market = sheet.market();
     let mut years = Years {
         factors: Vec::new(),
         annuity: Enclosure::ZERO,
     };
-    let mut forwards = YearForwards::default();
+    let mut forwards = YearForwards::new(market);
     for Quote { maturity, rate } in used_quotes(sheet) {
-        let gap_years = maturity - years.factors.len();
-        if gap_years > 1 {
-            let yearly = years.fill_gap(gap_years, rate)?;
-            if maturity >= FIRST_FORWARD_YEAR {
-                forwards.push_gap(gap_years, forward(yearly, at_known));
-            }
+        let more = maturity - years.factors.len();
+        let yearly = years.push_quote(more, rate)?;
+        if maturity >= market.smoothing_year() {
+            // Only here, since no other single year's forward is used.
+            let yearly = yearly.map_or_else(|| years.last_yearly_factor(), Ok)?;
+            forwards.push_years(more, forward(yearly, at_known));
         }
-        years.push(par_factor(rate, years.annuity))?;
     }
     Ok(Bootstrap {
+        market,
         factors: years.factors,
         forwards,
     })
@@ -107,6 +113,30 @@ impl Years {
         self.factors.push(checked_high(factor, year)?);
         self.annuity = self.annuity.plus(factor);
         Ok(())
+    }
+
+    /// Appends the years up to a quote, so many `more`, and hands back the yearly factor of the gap
+    /// if they are one; a single year is no gap.
+    fn push_quote(&mut self, more: usize, rate: i128) -> Result<Option<Enclosure>, Refusal> {
+        let yearly = match more {
+            1 => None,
+            _ => Some(self.fill_gap(more, rate)?),
+        };
+        self.push(par_factor(rate, self.annuity))?;
+        Ok(yearly)
+    }
+
+    /// The last year's factor over that of the year before it, or ground 9. It has no trial of its
+    /// own, so that it must be seen to lie where a gap's is sought: there its logarithm is near.
+    fn last_yearly_factor(&self) -> Result<Enclosure, Refusal> {
+        let [.., before, last] = self.factors[..] else {
+            panic!("no forward is asked for before year 2");
+        };
+        let yearly = yearly_factor(before, last);
+        if yearly.low < LOWEST_YEARLY_FACTOR || yearly.high > HIGHEST_YEARLY_FACTOR {
+            return Err(Refusal::at(9, self.factors.len()));
+        }
+        Ok(yearly)
     }
 
     /// Appends the years inside a gap and hands back its yearly factor. The gap's
@@ -152,7 +182,26 @@ pub fn par_factor(rate: i128, annuity: Enclosure) -> Enclosure {
     )
 }
 
-/// A gap's forward; the logarithm falls as the yearly factor rises.
+/// The factors of the first years, each of which is quoted.
+pub fn par_factors(rates: &[i16]) -> Vec<Enclosure> {
+    let mut annuity = Enclosure::ZERO;
+    let next = |&rate| {
+        let factor = par_factor(i128::from(rate), annuity);
+        annuity = annuity.plus(factor);
+        factor
+    };
+    rates.iter().map(next).collect()
+}
+
+/// A year's factor over that of the year before it, which is above 0.
+pub fn yearly_factor(before: Enclosure, year: Enclosure) -> Enclosure {
+    Enclosure::new(
+        div_down(year.low * U, before.high),
+        div_up(year.high * U, before.low),
+    )
+}
+
+/// The forward at a yearly factor; the logarithm falls as that rises.
 fn forward(yearly: Enclosure, at_known: AtKnown) -> Enclosure {
     let [low, high] = [yearly.high, yearly.low].map(|x| at_known.neg_log(x));
     Enclosure::new(low.low, high.high)

@@ -1,7 +1,7 @@
-//! The convergence factor a of a sheet: how fast the forwards beyond year 20 leave the
+//! The convergence factor a of a sheet: how fast the forwards beyond the smoothing year leave the
 //! LLFR for the ultimate forward rate.
 
-use crate::sheet::{Sheet, QUOTE_20};
+use crate::sheet::Sheet;
 
 /// Hundred-millionths in one, the unit of a.
 pub const CONVERGENCE_UNIT: i128 = 100_000_000;
@@ -12,8 +12,8 @@ pub const TEN_PERCENT: i128 = 10_000_000;
 /// X of a sheet without the phase-in's record: ten percent in hundred-thousandths.
 pub const X_OUTSIDE_PHASE_IN: u16 = 10_000;
 
-/// The 20-year rate, in hundred-thousandths, from which on a is ten percent; at minus this
-/// rate and below it is X.
+/// The rate of the smoothing year, in hundred-thousandths, from which on a is ten percent; at minus
+/// this rate and below it is X.
 pub const RATE_BOUND: i16 = 500;
 
 impl Sheet {
@@ -22,14 +22,14 @@ impl Sheet {
         self.phase_in.unwrap_or(X_OUTSIDE_PHASE_IN)
     }
 
-    /// The quoted 20-year rate.
-    pub fn rate_20(&self) -> i16 {
-        self.rates[QUOTE_20]
+    /// The quoted rate of the smoothing year.
+    pub fn smoothing_rate(&self) -> i16 {
+        self.rates[self.market().smoothing_quote()]
     }
 
     /// a in hundred-millionths.
     pub fn convergence(&self) -> i128 {
-        let rate = self.rate_20().clamp(-RATE_BOUND, RATE_BOUND);
+        let rate = self.smoothing_rate().clamp(-RATE_BOUND, RATE_BOUND);
         let x_above = i128::from(self.x() - X_OUTSIDE_PHASE_IN);
         TEN_PERCENT + x_above * i128::from(RATE_BOUND - rate)
     }

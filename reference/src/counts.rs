@@ -7,6 +7,7 @@ use crate::book::{Book, LARGEST_AGE_LIMIT};
 use crate::dropped::DroppedPosts;
 use crate::journal::{calls, make};
 use crate::known::KnownPosts;
+use crate::profiled::MarketPosts;
 
 /// How often something was posted, and how often it was accepted.
 #[derive(Clone, Copy, Debug, Default, PartialEq, Eq)]
@@ -16,7 +17,8 @@ pub struct Tally {
 }
 
 impl Tally {
-    pub(crate) fn count(&mut self, accepted: bool) {
+    /// Counts one more.
+    pub fn count(&mut self, accepted: bool) {
         self.posted += 1;
         self.accepted += u64::from(accepted);
     }
@@ -34,6 +36,7 @@ pub struct PostCounts {
     pub dropped: DroppedPosts,
     pub adjusted: AdjustedPosts,
     pub known: KnownPosts,
+    pub markets: MarketPosts,
 }
 
 impl PostCounts {
@@ -42,6 +45,7 @@ impl PostCounts {
         self.dropped.count(sheet, number == 0);
         self.adjusted.count(sheet, number);
         self.known.count(sheet, number == 0);
+        self.markets.count(sheet, number);
     }
 
     /// Counts the posts of a journal, each after what comes before it.
@@ -55,13 +59,15 @@ impl PostCounts {
     pub fn check(&self) -> Result<(), String> {
         self.dropped.check()?;
         self.adjusted.check()?;
-        self.known.check()
+        self.known.check()?;
+        self.markets.check()
     }
 }
 
 impl fmt::Display for PostCounts {
     fn fmt(&self, f: &mut fmt::Formatter<'_>) -> fmt::Result {
-        write!(f, "{}\n{}\n{}", self.dropped, self.adjusted, self.known)
+        write!(f, "{}\n{}\n", self.dropped, self.adjusted)?;
+        write!(f, "{}\n{}", self.known, self.markets)
     }
 }
 

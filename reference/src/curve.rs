@@ -4,7 +4,7 @@
 use crate::adjustment::{adjusted_factors_with, adjusted_forwards};
 use crate::bootstrap::{bootstrap_with, Bootstrap};
 use crate::enclosure::Enclosure;
-use crate::extrapolation::{extrapolate, FIRST_SMOOTHING_POINT};
+use crate::extrapolation::extrapolate;
 use crate::forwards::YearForwards;
 use crate::refusal::Refusal;
 use crate::series::AtKnown;
@@ -81,7 +81,7 @@ impl Curve {
         Curve::of_quotes(sheet, &bootstrap_with(sheet, at_known)?, at_known)
     }
 
-    /// The plain curve, or ground 8 past year 20, or ground 10.
+    /// The plain curve, or ground 8 past the smoothing year, or ground 10.
     fn of_quotes(sheet: &Sheet, quoted: &Bootstrap, at_known: AtKnown) -> Result<Curve, Refusal> {
         Curve::going_on(sheet, quoted.liquid(), &quoted.forwards, at_known)
     }
@@ -94,19 +94,20 @@ impl Curve {
         at_known: AtKnown,
     ) -> Result<Curve, Refusal> {
         let liquid = adjusted_factors_with(quoted.liquid(), adjustment, at_known)?;
-        let forwards = adjusted_forwards(&quoted.forwards, adjustment);
+        let forwards = adjusted_forwards(quoted.market, &quoted.forwards, adjustment);
         Curve::going_on(sheet, &liquid, &forwards, at_known)
     }
 
-    /// The curve that goes on from its years to 20, or ground 8 past them, or ground 10.
+    /// The curve that goes on from its years to the smoothing year, or ground 8 past them, or ground
+    /// 10.
     fn going_on(
         sheet: &Sheet,
         liquid: &[Enclosure],
         forwards: &YearForwards,
         at_known: AtKnown,
     ) -> Result<Curve, Refusal> {
-        let factor_20 = liquid[FIRST_SMOOTHING_POINT - 1];
-        let extrapolated = extrapolate(sheet, factor_20, forwards, at_known)?;
+        let smoothing_factor = liquid[liquid.len() - 1];
+        let extrapolated = extrapolate(sheet, smoothing_factor, forwards, at_known)?;
         let curve = Curve::collect(liquid.iter().chain(&extrapolated));
         curve.check_widths(i128::from(sheet.limit))?;
         Ok(curve)

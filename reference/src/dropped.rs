@@ -4,13 +4,14 @@
 use std::collections::BTreeMap;
 use std::fmt;
 
-use crate::bootstrap::{par_factor, used_quotes};
+use crate::bootstrap::{par_factors, used_quotes};
 use crate::counts::Tally;
 use crate::curve::Curve;
 use crate::enclosure::Enclosure;
-use crate::sheet::{Sheet, MATURITIES, QUOTE_20};
+use crate::market::{MATURITIES, QUOTE_20};
+use crate::sheet::Sheet;
 use crate::streams::{
-    edge, limit, phase_in, quote, rates, sheet_bytes, steep_rates, ufr, volumes_of, Random,
+    limit, move_to_edge, phase_in, quote, rates, sheet_bytes, steep_rates, ufr, volumes_of, Random,
     HIGHEST_QUOTE, LARGEST_LIMIT, LOWEST_QUOTE,
 };
 
@@ -23,6 +24,7 @@ const PATTERNS: u64 = 30;
 pub fn dropped_sheet(random: &mut Random, month: u16) -> Sheet {
     let pattern = 1 + random.below(PATTERNS);
     let mut sheet = Sheet {
+        profile: None,
         month,
         rates: shaped_rates(random),
         volumes: volumes_of(random, pattern),
@@ -35,7 +37,7 @@ pub fn dropped_sheet(random: &mut Random, month: u16) -> Sheet {
         phase_in(random, &mut sheet);
     }
     if random.one_in(8) {
-        move_to_edge(random, &mut sheet);
+        move_an_end(random, &mut sheet);
     }
     for i in dropped(&sheet) {
         sheet.rates[i] = match random.below(5) {
@@ -80,16 +82,11 @@ fn vanishing_rates(random: &mut Random) -> [i16; 17] {
 }
 
 fn tenth_factor(rates: &[i16; 17]) -> Enclosure {
-    let mut annuity = Enclosure::ZERO;
-    for &rate in &rates[..9] {
-        annuity = annuity.plus(par_factor(i128::from(rate), annuity));
-    }
-    par_factor(i128::from(rates[9]), annuity)
+    par_factors(&rates[..10])[9]
 }
 
-/// Moves the rate at the end of a gap beyond 20 to the last that is accepted on the way to an
-/// end of its range, or to the next one, which is not: an end of the halving is then near.
-fn move_to_edge(random: &mut Random, sheet: &mut Sheet) {
+/// Moves the rate at the end of a gap beyond 20 to where an end of the halving is near.
+fn move_an_end(random: &mut Random, sheet: &mut Sheet) {
     let ends: Vec<usize> = (QUOTE_20 + 1..MATURITIES.len())
         .filter(|&i| sheet.volumes[i - QUOTE_20] > 0)
         .collect();
@@ -97,20 +94,15 @@ fn move_to_edge(random: &mut Random, sheet: &mut Sheet) {
         return;
     }
     let i = random.one_of(&ends);
-    // One step past the range counts as refused, where the whole range is accepted.
-    let fails = random.one_of(&[LOWEST_QUOTE - 1, HIGHEST_QUOTE + 1]);
-    let (passes, fails) = edge(i64::from(sheet.rates[i]), fails, |rate| {
-        sheet.rates[i] = rate as i16;
-        Curve::plain(sheet).is_ok()
-    });
-    sheet.rates[i] = quote(random.one_of(&[passes, fails]));
+    move_to_edge(random, sheet, i);
 }
 
 /// The indices of the quotes that are dropped.
 fn dropped(sheet: &Sheet) -> Vec<usize> {
     let used: Vec<usize> = used_quotes(sheet).map(|quote| quote.maturity).collect();
-    (0..MATURITIES.len())
-        .filter(|&i| !used.contains(&usize::from(MATURITIES[i])))
+    let maturities = sheet.market().maturities;
+    (0..maturities.len())
+        .filter(|&i| !used.contains(&usize::from(maturities[i])))
         .collect()
 }
 
@@ -139,7 +131,7 @@ pub fn typed_dropped_sheet(random: &mut Random, month: u16) -> Vec<u8> {
 pub const MERGED_GAPS: [(usize, usize); 6] =
     [(20, 30), (25, 40), (20, 40), (30, 50), (25, 50), (20, 50)];
 
-/// What became of posts with dropped quotes, on which none of grounds 1 to 4 applies.
+/// What became of posts with dropped quotes, on which none of grounds 19 and 1 to 4 applies.
 #[derive(Clone, Debug, Default, PartialEq, Eq)]
 pub struct DroppedPosts {
     pub all: Tally,
@@ -156,7 +148,7 @@ impl DroppedPosts {
             return;
         };
         let used: Vec<usize> = used_quotes(&sheet).map(|quote| quote.maturity).collect();
-        if used.len() == MATURITIES.len() {
+        if used.len() == sheet.market().maturities.len() {
             return;
         }
         self.all.count(accepted);

@@ -2,7 +2,9 @@
 //! answers are written by hand, after the specification's grounds and figures, and not worked.
 
 use crate::journal::{look_up, post, turn, withdrawal};
-use crate::sheet::{Sheet, MATURITIES};
+use crate::market::{Market, MATURITIES};
+use crate::profiled::in_market;
+use crate::sheet::Sheet;
 use crate::streams::{sheet_bytes, zero_sheet};
 
 /// The age limit of the book that gives these answers.
@@ -18,14 +20,16 @@ pub fn records() -> Vec<Answered> {
         desk_records(),
         dropped_records(),
         adjusted_records(),
+        market_records(),
         aging_records(),
         withdrawal_records(),
+        market_withdrawal_records(),
     ]
     .concat()
 }
 
-/// The records that meet every ground a desk's record can meet: all but 16 and 18. No curve in them
-/// gets older than two months, so `AGE_LIMIT` does not show.
+/// The records that meet every ground a desk's record without a profile can meet: all but 16, 18 and
+/// 19. No curve in them gets older than two months, so `AGE_LIMIT` does not show.
 pub fn desk_records() -> Vec<Answered> {
     [base_records(), rate_records()].concat()
 }
@@ -254,6 +258,188 @@ fn adjusted_curve_records() -> Vec<Answered> {
         (posted(narrow), 10, 11),
         (look_up(41), 0, 0),
         (posted(zero_sheet(1)), 0, 0),
+    ]
+}
+
+/// What follows `base_records` or `adjusted_records` and leaves the book as they do: sheets with a
+/// profile record, and what is refused of them.
+pub fn market_records() -> Vec<Answered> {
+    [
+        profile_records(),
+        market_tail_records(),
+        market_sheet_records(),
+        market_curve_records(),
+        vec![(post(&sheet_bytes(&zero_sheet(1))), 0, 0)],
+    ]
+    .concat()
+}
+
+/// The profile record itself: each profile, unknown ones, and the length that each one has.
+fn profile_records() -> Vec<Answered> {
+    let zero = |market| sheet_bytes(&in_market(&zero_sheet(1), market));
+    let behind = |start: &[u8], market| post(&[start, &zero(market)[2..]].concat());
+    vec![
+        (post(&zero(Market::EURO)), 0, 0),
+        (look_up(150), 0, 0),
+        (post(&zero(Market::TO_10)), 0, 0),
+        (look_up(150), 0, 0),
+        (post(&zero(Market::TO_15)), 0, 0),
+        (look_up(150), 0, 0),
+        // A lone kind byte names nothing.
+        (post(&[0x08]), 1, 0),
+        (post(&[0x08, 0x00]), 19, 0),
+        (post(&[0x08, 0x04]), 19, 0),
+        (post(&[0x08, 0x01]), 1, 0),
+        (post(&[0x08, 0x02]), 1, 0),
+        (post(&[0x08, 0x03]), 1, 0),
+        (behind(&[0x08, 0x00], Market::EURO), 19, 0),
+        (behind(&[0x08, 0x04], Market::TO_10), 19, 0),
+        (behind(&[0x08, 0xFF], Market::TO_15), 19, 0),
+        // Whatever the length, and whatever else is wrong.
+        (behind(&[0x08, 0x00, 0x00], Market::TO_15), 19, 0),
+        (post(&with_byte(zero_sheet(1), 0, 0x08)), 19, 0),
+        // Another profile's sheet has another length.
+        (behind(&[0x08, 0x03], Market::TO_10), 1, 0),
+        (behind(&[0x08, 0x02], Market::TO_15), 1, 0),
+        (behind(&[0x08, 0x01], Market::TO_15), 1, 0),
+        (behind(&[0x08, 0x02], Market::EURO), 1, 0),
+        // The smaller markets need their record, and none has it twice.
+        (behind(&[], Market::TO_10), 1, 0),
+        (behind(&[], Market::TO_15), 1, 0),
+        (behind(&[0x08, 0x02, 0x08, 0x02], Market::TO_10), 1, 0),
+        (behind(&[0x08, 0x01, 0x08, 0x01], Market::EURO), 1, 0),
+        (look_up(150), 0, 0),
+    ]
+}
+
+/// Last records. An adjustment goes with the euro alone: elsewhere an X is due in its place.
+fn market_tail_records() -> Vec<Answered> {
+    let zero = |market| sheet_bytes(&in_market(&zero_sheet(1), market));
+    let followed_by = |market, tail: &[u8]| post(&[&zero(market), tail].concat());
+    let (euro, to_10, to_15) = (Market::EURO, Market::TO_10, Market::TO_15);
+    let (x, adjustment) = ([0x06, 0x4E, 0x20], [0x07, 0x00, 0x00]);
+    let both = [x, adjustment].concat();
+    vec![
+        (followed_by(euro, &x), 0, 0),
+        (followed_by(euro, &adjustment), 0, 0),
+        (followed_by(euro, &both), 0, 0),
+        (followed_by(to_10, &x), 0, 0),
+        (followed_by(to_15, &x), 0, 0),
+        (followed_by(to_10, &adjustment), 2, 16),
+        (followed_by(to_15, &adjustment), 2, 18),
+        (followed_by(to_10, &both), 1, 0),
+        (followed_by(to_15, &both), 1, 0),
+        // Places count the profile record.
+        (followed_by(euro, &[0x05, 0x4E, 0x20]), 2, 27),
+        (followed_by(to_10, &[0x05, 0x4E, 0x20]), 2, 16),
+        (followed_by(to_15, &[0x08, 0x4E, 0x20]), 2, 18),
+        (followed_by(euro, &[x, x].concat()), 2, 28),
+        (followed_by(euro, &[0x06, 0x4E, 0x21]), 3, 27),
+        (followed_by(euro, &[0x07, 0x01, 0xF5]), 3, 27),
+        (followed_by(to_10, &[0x06, 0x4E, 0x21]), 3, 16),
+        (followed_by(to_15, &[0x06, 0x27, 0x0F]), 3, 18),
+        (
+            followed_by(euro, &[&x[..], &[0x07, 0xFE, 0x0B]].concat()),
+            3,
+            28,
+        ),
+        (followed_by(euro, &[0x07]), 1, 0),
+        (followed_by(to_10, &[0x06, 0x4E]), 1, 0),
+        (followed_by(to_15, &[0x06, 0x4E, 0x20, 0x00]), 1, 0),
+        (look_up(150), 0, 0),
+    ]
+}
+
+/// Grounds 2 to 6 with a profile record.
+fn market_sheet_records() -> Vec<Answered> {
+    let posted = |sheet: Sheet, market| post(&sheet_bytes(&in_market(&sheet, market)));
+    let wrong = |market, at| post(&with_byte(in_market(&zero_sheet(1), market), at, 0x2A));
+    let with_volume = |volume| with_volumes(zero_sheet(1), [volume; 5]);
+    let (euro, to_10, to_15) = (Market::EURO, Market::TO_10, Market::TO_15);
+    vec![
+        // The month's kind; the last quote's maturity; the volume's, the rate's and the limit's kind.
+        (wrong(euro, 2), 2, 2),
+        (wrong(to_10, 2), 2, 2),
+        (wrong(to_10, 42), 2, 12),
+        (wrong(to_15, 50), 2, 14),
+        (wrong(to_10, 45), 2, 13),
+        (wrong(to_15, 53), 2, 15),
+        (wrong(to_10, 51), 2, 14),
+        (wrong(to_15, 62), 2, 17),
+        (posted(zero_sheet(2_400), to_10), 3, 2),
+        (posted(with_rate(zero_sheet(1), 10, 12_001), to_10), 3, 12),
+        (posted(with_rate(zero_sheet(1), 15, -2_001), to_15), 3, 14),
+        (posted(with_rate(zero_sheet(1), 50, -2_001), euro), 3, 19),
+        (posted(with_volume(1_000_001), to_10), 3, 13),
+        (posted(with_volume(1_000_001), to_15), 3, 15),
+        (posted(with_volume(1_000_001), euro), 3, 20),
+        (posted(with_volume(0), to_10), 4, 0),
+        (posted(with_volume(0), to_15), 4, 0),
+        (posted(with_volume(0), euro), 4, 0),
+        (posted(zero_sheet(3), to_10), 5, 0),
+        (posted(zero_sheet(3), to_15), 5, 0),
+        (posted(zero_sheet(0), to_10), 6, 0),
+        (posted(zero_sheet(0), to_15), 6, 0),
+        (look_up(150), 0, 0),
+    ]
+}
+
+/// Grounds 7 to 10 in the smaller markets.
+fn market_curve_records() -> Vec<Answered> {
+    let of_month_1 = |sheet: Sheet, market| {
+        let sheet = with_volumes(sheet, [1; 5]);
+        post(&sheet_bytes(&in_market(&sheet, market)))
+    };
+    let tenth = |rate| of_month_1(with_rate(flat(3_000), 10, rate), Market::TO_10);
+    let (to_10, to_15) = (Market::TO_10, Market::TO_15);
+    vec![
+        (of_month_1(fall(), to_10), 7, 10),
+        (of_month_1(fall(), to_15), 7, 10),
+        // Year 10 is U and year 9 about 0.9143 U: the forward is about -0.0896, and factors pass 2 U
+        // where 0.896 × (1 - e^(-h/10)) passes ln 2, past h = 14.
+        (of_month_1(with_rate(flat(1_000), 10, 0), to_10), 8, 25),
+        // Year 12 is about 0.8874 U and year 15 about 1.1115 U, three years of a forward of -0.0750,
+        // and ln (2 / 1.1115) is 0.5874: past h = 15.
+        (of_month_1(with_rate(flat(1_000), 15, -770), to_15), 8, 31),
+        // x is about 1.0800, 1.1021 and 0.7589.
+        (tenth(2_000), 0, 0),
+        (look_up(11), 0, 0),
+        (tenth(1_800), 9, 10),
+        (tenth(5_000), 9, 10),
+        (of_month_1(with_rate(flat(3_000), 12, 12_000), to_15), 9, 12),
+        (of_month_1(with_rate(flat(3_000), 15, 12_000), to_15), 9, 15),
+        // What they do not quote is not missed.
+        (of_month_1(with_rate(flat(3_000), 15, 12_000), to_10), 0, 0),
+        (of_month_1(with_rate(flat(3_000), 20, 12_000), to_15), 0, 0),
+        (of_month_1(flat(-2_000), to_10), 0, 0),
+        (of_month_1(flat(-2_000), to_15), 0, 0),
+        // Every year of these is U to U.
+        (of_month_1(zero_within(1), to_10), 0, 0),
+        (look_up(150), 0, 0),
+        (of_month_1(zero_within(1), to_15), 0, 0),
+        (look_up(150), 0, 0),
+        // Year 10 of flat 3% is 744,093,914 to 744,093,916.
+        (of_month_1(flat_within(1), to_10), 10, 10),
+        (of_month_1(flat_within(1), to_15), 10, 10),
+        // The widest bands of flat 3% are 854 and 722, in year 150.
+        (of_month_1(flat_within(853), to_10), 10, 150),
+        (of_month_1(flat_within(854), to_10), 0, 0),
+        (of_month_1(flat_within(721), to_15), 10, 150),
+        (of_month_1(flat_within(722), to_15), 0, 0),
+    ]
+}
+
+/// What follows `withdrawal_records`, which leave month 10 told and a curve of it: from one market
+/// back to another.
+fn market_withdrawal_records() -> Vec<Answered> {
+    let posted = |market| post(&sheet_bytes(&in_market(&zero_sheet(10), market)));
+    vec![
+        (posted(Market::TO_10), 0, 0),
+        (posted(Market::TO_15), 0, 0),
+        (withdrawal(), 0, 0),
+        (look_up(150), 0, 0),
+        (withdrawal(), 0, 0),
+        (look_up(150), 0, 0),
     ]
 }
 

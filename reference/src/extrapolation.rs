@@ -1,33 +1,33 @@
-//! Discount factors of years 21 to 150 from the LLFR and the ultimate forward rate.
-
-use std::ops::RangeInclusive;
+//! Discount factors past the smoothing year from the LLFR and the ultimate forward rate.
 
 use crate::bootstrap::checked_high;
+use crate::curve::YEARS;
 use crate::enclosure::{div_down, div_up, Enclosure, Round, RATE_STEP, U};
 use crate::forwards::YearForwards;
+use crate::market::Market;
 use crate::refusal::Refusal;
 use crate::series::AtKnown;
 use crate::sheet::Sheet;
 use crate::weights::weights;
 
-/// The last year whose factor comes from the quotes.
-pub const FIRST_SMOOTHING_POINT: usize = 20;
-
-/// Years 21 to 150 from the factor of year 20, or ground 8, under a rule for known values.
+/// The years from the one after the smoothing year to 150, from the smoothing year's factor, or
+/// ground 8, under a rule for known values.
 pub fn extrapolate(
     sheet: &Sheet,
-    factor_20: Enclosure,
+    smoothing_factor: Enclosure,
     forwards: &YearForwards,
     at_known: AtKnown,
 ) -> Result<Vec<Enclosure>, Refusal> {
     let ultimate = log_ultimate_with(sheet.ufr, at_known);
-    let last_liquid = last_liquid_forward(&sheet.volumes, forwards);
-    let mut factor = factor_20;
+    let market = sheet.market();
+    let last_liquid = last_liquid_forward(market, sheet.carried_volumes(), forwards);
+    let years = market.smoothing_year() + 1..=YEARS;
+    let mut factor = smoothing_factor;
     let mut factors = Vec::new();
-    for (i, weight) in weights(sheet.convergence()).into_iter().enumerate() {
+    for (year, weight) in years.zip(weights(sheet.convergence())) {
         let forward = year_forward(ultimate, last_liquid, weight);
         factor = next_factor(factor, forward, at_known);
-        factors.push(checked_high(factor, FIRST_SMOOTHING_POINT + 1 + i)?);
+        factors.push(checked_high(factor, year)?);
     }
     Ok(factors)
 }
@@ -41,20 +41,18 @@ fn log_ultimate_with(ufr: u16, at_known: AtKnown) -> Enclosure {
     at_known.neg_log(U + RATE_STEP * i128::from(ufr)).negated()
 }
 
-/// The years over whose forwards each volume's mean is taken: from 15 to maturity 20, from 20
-/// to every later one.
-const MEAN_YEARS: [RangeInclusive<usize>; 5] = [16..=20, 21..=25, 21..=30, 21..=40, 21..=50];
-
-/// A multiple of 5, 10, 20 and 30 years: with it every mean is a whole multiple of forwards,
+/// A multiple of 1, 3, 5, 10, 20 and 30 years: with it every mean is a whole multiple of forwards,
 /// and LLFR is rounded once.
 const COMMON_MULTIPLE: i128 = 60;
 
 /// LLFR, the volume-weighted mean forward, rounded once. A maturity without volume has no
-/// weight; beyond 20 its years may have no forward either.
-pub fn last_liquid_forward(volumes: &[u32; 5], forwards: &YearForwards) -> Enclosure {
+/// weight; beyond the smoothing year its years may have no forward either. Where the sheet carries
+/// one volume this is the last forward before smoothing starts, whatever the volume.
+pub fn last_liquid_forward(market: Market, volumes: &[u32], forwards: &YearForwards) -> Enclosure {
     let mut sum = Enclosure::ZERO;
     let mut volume_sum = 0;
-    for (volume, years) in volumes.map(i128::from).into_iter().zip(MEAN_YEARS) {
+    let volumes = volumes.iter().copied().map(i128::from);
+    for (volume, years) in volumes.zip(market.mean_years()) {
         if volume > 0 {
             let multiple = COMMON_MULTIPLE / years.clone().count() as i128;
             sum = sum.plus(forwards.sum(years).times(multiple * volume));

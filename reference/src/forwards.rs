@@ -3,27 +3,34 @@
 use std::ops::RangeInclusive;
 
 use crate::enclosure::Enclosure;
+use crate::market::Market;
 
-/// The first year whose forward is kept: the first after 15, where the gap to 20 starts.
-pub const FIRST_FORWARD_YEAR: usize = 16;
-
-/// Years of the gap 15-20.
-const FIRST_GAP_YEARS: usize = 5;
-
-/// The forwards of years 16, 17 and so on, as far as the quotes reach.
-#[derive(Clone, Debug, Default, PartialEq, Eq)]
-pub struct YearForwards(Vec<Enclosure>);
+/// The forwards of the years before smoothing starts and of later ones, as far as the quotes reach.
+#[derive(Clone, Debug, PartialEq, Eq)]
+pub struct YearForwards {
+    /// The first year whose forward is kept.
+    first: usize,
+    forwards: Vec<Enclosure>,
+}
 
 impl YearForwards {
-    /// Appends a gap, in each of whose years the forward is the same.
-    pub fn push_gap(&mut self, years: usize, forward: Enclosure) {
-        self.0.extend(std::iter::repeat_n(forward, years));
+    /// None yet.
+    pub fn new(market: Market) -> Self {
+        YearForwards {
+            first: *market.years_before_smoothing().start(),
+            forwards: Vec::new(),
+        }
     }
 
-    /// The same, with `gain` added to the forward of the gap 15-20 alone.
-    pub fn with_first_gap_moved(&self, gain: Enclosure) -> Self {
+    /// Appends years with the same forward.
+    pub fn push_years(&mut self, years: usize, forward: Enclosure) {
+        self.forwards.extend(std::iter::repeat_n(forward, years));
+    }
+
+    /// The same, with `gain` added to the forwards of `years`, all of which have one.
+    pub fn with_gain(&self, years: RangeInclusive<usize>, gain: Enclosure) -> Self {
         let mut moved = self.clone();
-        for forward in &mut moved.0[..FIRST_GAP_YEARS] {
+        for forward in &mut moved.forwards[years.start() - self.first..=years.end() - self.first] {
             *forward = forward.plus(gain);
         }
         moved
@@ -32,7 +39,7 @@ impl YearForwards {
     /// The sum over `years`, all of which have a forward.
     pub fn sum(&self, years: RangeInclusive<usize>) -> Enclosure {
         years.fold(Enclosure::ZERO, |sum, year| {
-            sum.plus(self.0[year - FIRST_FORWARD_YEAR])
+            sum.plus(self.forwards[year - self.first])
         })
     }
 }

@@ -9,8 +9,9 @@ use std::ops::RangeInclusive;
 use crate::adjusted::adjustment;
 use crate::curve::{Curve, Curves, Which, YEARS};
 use crate::enclosure::{Enclosure, U};
+use crate::market::{Market, MATURITIES, QUOTE_20};
 use crate::series::AtKnown;
-use crate::sheet::{Sheet, MATURITIES, QUOTE_20};
+use crate::sheet::Sheet;
 use crate::streams::{
     quote, rates, ufr, volumes_of, widest_band, worked, Random, HIGHEST_QUOTE, LARGEST_LIMIT,
     LOWEST_QUOTE,
@@ -24,6 +25,7 @@ const ALL_TRADED: u64 = 31;
 pub fn known_sheet(random: &mut Random, month: u16) -> Sheet {
     let shape = random.below(8);
     let mut sheet = Sheet {
+        profile: None,
         month,
         rates: known_rates(random, shape),
         volumes: volumes(random),
@@ -186,9 +188,10 @@ pub struct KnownPosts {
 
 impl KnownPosts {
     /// Counts a post that brought these bytes; none that is refused is shown or answered otherwise,
-    /// as no band is wider than earlier.
+    /// as no band is wider than earlier. Those of smaller markets are not counted here.
     pub fn count(&mut self, bytes: &[u8], accepted: bool) {
-        let Some(sheet) = Sheet::read(bytes).ok().filter(|_| accepted) else {
+        let counted = |sheet: &Sheet| accepted && sheet.market() == Market::EURO;
+        let Some(sheet) = Sheet::read(bytes).ok().filter(counted) else {
             return;
         };
         let curves = Curves::of(&sheet).expect("the curves of an accepted sheet");

@@ -1,5 +1,5 @@
-//! Second implementation of the dated euro curve book: sheet reading, bootstrap
-//! from par rates, extrapolation, adjustment, zero rates, annuity sums, the book itself, and the
+//! Second implementation of the dated curve book of the euro and two smaller markets: sheet reading,
+//! bootstrap from par rates, extrapolation, adjustment, zero rates, annuity sums, the book itself, and the
 //! true curve of order n against which the enclosures, the rates and the sums are checked.
 
 pub mod accepted;
@@ -21,7 +21,9 @@ pub mod forwards;
 pub mod interval;
 pub mod journal;
 pub mod known;
+pub mod market;
 pub mod page;
+pub mod profiled;
 pub mod questions;
 pub mod rates;
 pub mod records;

@@ -7,6 +7,7 @@ use crate::curve::Which;
 use crate::dropped::typed_dropped_sheet;
 use crate::journal::{look_up, post, turn, withdrawal};
 use crate::known::known_sheet;
+use crate::profiled::typed_profiled_sheet;
 use crate::streams::{sheet, sheet_bytes, steep_sheet, typed_sheet, Random};
 use crate::sums::{kind_of, Wanted};
 use crate::withdrawn::{taken_back, withdrawals};
@@ -68,13 +69,15 @@ fn later(random: &mut Random, told: u16) -> u16 {
     }
 }
 
-/// The record of a post; three in 10 are of sheets with dropped quotes, as many of sheets with an
-/// adjustment, and one is of a sheet that meets a known argument.
+/// The record of a post; three in 14 are of sheets with dropped quotes, as many of sheets with an
+/// adjustment, four of sheets with a profile record, and one is of a sheet that meets a known
+/// argument.
 pub fn posted(random: &mut Random, month: u16) -> Vec<u8> {
-    post(&match random.below(10) {
+    post(&match random.below(14) {
         0..=2 => typed_dropped_sheet(random, month),
         3..=5 => typed_adjusted_sheet(random, month),
         6 => sheet_bytes(&known_sheet(random, month)),
+        7..=10 => typed_profiled_sheet(random, month),
         _ => typed_sheet(random, month),
     })
 }

@@ -33,16 +33,16 @@ impl Refusal {
 }
 
 /// The grounds in words, that of number n at index n - 1.
-const REASONS: [&str; 18] = [
-    "the sheet's length is none of 109, 112 and 115",
+const REASONS: [&str; 19] = [
+    "the sheet's length is none that its profile has",
     "a record's kind or maturity is not the one due",
     "a number is outside its range",
     "no volume is above 0",
     "the sheet's month is after the told month",
     "the sheet's month is before the standing curve's",
-    "a low of years 1 to 50 is below 1",
+    "a low of a year from the quotes is below 1",
     "a high is above 2,000,000,000",
-    "an end of the halving fails its test",
+    "an end of the halving fails its test, or year 10 over year 9 is outside the ends",
     "high less low is above the sheet's limit",
     "the month is above 2,399",
     "the month is before the told month",
@@ -52,6 +52,7 @@ const REASONS: [&str; 18] = [
     "the curve's age is above the book's limit",
     "no high rate up to 100,000 exists",
     "no post is left to withdraw",
+    "the profile is not 1 to 3",
 ];
 
 impl fmt::Display for Refusal {

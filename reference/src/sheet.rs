@@ -1,30 +1,25 @@
-//! A sheet: its records in their turn, and grounds 1 to 4.
+//! A sheet: its records in their turn, and grounds 19 and 1 to 4.
 
 use std::ops::RangeInclusive;
 
+use crate::market::{Market, MATURITIES, MOST_VOLUMES};
 use crate::refusal::Refusal;
-
-/// The quoted maturities in their order on the sheet.
-pub const MATURITIES: [u8; 17] = [1, 2, 3, 4, 5, 6, 7, 8, 9, 10, 12, 15, 20, 25, 30, 40, 50];
-
-/// The index of maturity 20 in `MATURITIES`.
-pub const QUOTE_20: usize = 12;
-
-/// The maturities whose traded volume is given, in their order on the sheet.
-pub const VOLUME_MATURITIES: [u8; 5] = [20, 25, 30, 40, 50];
 
 /// The last month a sheet or a turn may name.
 pub const LAST_MONTH: u32 = 2_399;
 
-/// The numbers of a sheet on which none of grounds 1 to 4 applies.
+/// The numbers of a sheet on which none of grounds 19 and 1 to 4 applies.
 #[derive(Clone, Debug, PartialEq, Eq)]
 pub struct Sheet {
+    /// The market that the profile record names, on a sheet that has it.
+    pub profile: Option<Market>,
     /// Months since January 2000.
     pub month: u16,
-    /// Par rates in hundred-thousandths, in the order of `MATURITIES`.
-    pub rates: [i16; 17],
-    /// Traded volumes in the order of `VOLUME_MATURITIES`.
-    pub volumes: [u32; 5],
+    /// Par rates in hundred-thousandths, in the order of `MATURITIES`; 0 past those that the market
+    /// quotes.
+    pub rates: [i16; MATURITIES.len()],
+    /// Traded volumes in the order of the market's; 0 past those that its sheets carry.
+    pub volumes: [u32; MOST_VOLUMES],
     /// Ultimate forward rate in hundred-thousandths.
     pub ufr: u16,
     /// Largest allowed high less low, in billionths.
@@ -37,17 +32,46 @@ pub struct Sheet {
 }
 
 impl Sheet {
-    /// The sheet held by `bytes`, or the first of grounds 1 to 4 that applies.
+    /// The sheet held by `bytes`, or the first of grounds 19 and 1 to 4 that applies.
     pub fn read(bytes: &[u8]) -> Result<Sheet, Refusal> {
-        let dues = dues(bytes).ok_or(Refusal::plain(1))?;
+        let profile = profile(bytes)?;
+        let dues = dues(profile, bytes).ok_or(Refusal::plain(1))?;
         let records = split(bytes, dues);
         check(2, &records, Record::is_due)?;
         check(3, &records, Record::in_range)?;
         let sheet = decode(&records);
-        if sheet.volumes.iter().all(|&volume| volume == 0) {
+        if sheet.carried_volumes().iter().all(|&volume| volume == 0) {
             return Err(Refusal::plain(4));
         }
         Ok(sheet)
+    }
+
+    /// The market, which is the euro where no record names one.
+    pub fn market(&self) -> Market {
+        self.profile.unwrap_or(Market::EURO)
+    }
+
+    /// The rates that the market quotes.
+    pub fn quoted_rates(&self) -> &[i16] {
+        &self.rates[..self.market().maturities.len()]
+    }
+
+    /// The volumes that the market's sheets carry.
+    pub fn carried_volumes(&self) -> &[u32] {
+        &self.volumes[..self.market().volume_maturities.len()]
+    }
+}
+
+/// The market that the sheet's first record names, none where another record is the first, or
+/// ground 19. A lone kind byte names none: its sheet is too short for any.
+fn profile(bytes: &[u8]) -> Result<Option<Market>, Refusal> {
+    const PROFILE: u8 = Kind::Profile as u8;
+    match *bytes {
+        [PROFILE, byte, ..] => {
+            let market = Market::of_profile(byte).ok_or(Refusal::plain(19))?;
+            Ok(Some(market))
+        }
+        _ => Ok(None),
     }
 }
 
@@ -61,12 +85,14 @@ enum Kind {
     Limit = 0x05,
     PhaseIn = 0x06,
     Adjustment = 0x07,
+    Profile = 0x08,
 }
 
 impl Kind {
     /// Bytes of the number that ends the record.
     fn number_length(self) -> usize {
         match self {
+            Kind::Profile => 1,
             Kind::Volume | Kind::Limit => 4,
             _ => 2,
         }
@@ -82,6 +108,7 @@ impl Kind {
             Kind::Limit => 1..=100_000,
             Kind::PhaseIn => 10_000..=20_000,
             Kind::Adjustment => -500..=500,
+            Kind::Profile => 1..=3,
         }
     }
 
@@ -104,7 +131,7 @@ impl Due {
         Due { kind, maturity }
     }
 
-    fn of_each(kind: Kind, maturities: &[u8]) -> impl Iterator<Item = Due> + '_ {
+    fn of_each(kind: Kind, maturities: &'static [u8]) -> impl Iterator<Item = Due> {
         let due = move |&maturity| Due {
             kind,
             maturity: Some(maturity),
@@ -118,36 +145,38 @@ impl Due {
     }
 }
 
-/// The dues of the sheet in `bytes`, or none if no sheet is that long.
-fn dues(bytes: &[u8]) -> Option<Vec<Due>> {
-    let mut dues = required();
+/// The dues of the sheet in `bytes`, or none if no sheet of its profile is that long.
+fn dues(profile: Option<Market>, bytes: &[u8]) -> Option<Vec<Due>> {
+    let market = profile.unwrap_or(Market::EURO);
+    let mut dues: Vec<Due> = profile.iter().map(|_| Due::plain(Kind::Profile)).collect();
+    dues.extend(required(market));
     let length = dues.iter().map(|due| due.length()).sum();
-    dues.extend(tail(bytes.get(length..)?)?.iter().copied().map(Due::plain));
+    let tail = tail(market, bytes.get(length..)?)?;
+    dues.extend(tail.iter().copied().map(Due::plain));
     Some(dues)
 }
 
 /// What is due in the bytes past the required records. Each record there has three bytes, so
 /// the kind byte must tell which one a sheet has that has one alone; where it is of neither
-/// kind, the phase-in is due.
-fn tail(bytes: &[u8]) -> Option<&'static [Kind]> {
+/// kind, or the market takes no adjustment, the phase-in is due.
+fn tail(market: Market, bytes: &[u8]) -> Option<&'static [Kind]> {
     const ADJUSTMENT: u8 = Kind::Adjustment as u8;
-    match bytes {
-        [] => Some(&[]),
-        [ADJUSTMENT, _, _] => Some(&[Kind::Adjustment]),
-        [_, _, _] => Some(&[Kind::PhaseIn]),
-        [_, _, _, _, _, _] => Some(&[Kind::PhaseIn, Kind::Adjustment]),
+    match (bytes, market.takes_adjustment) {
+        ([], _) => Some(&[]),
+        ([ADJUSTMENT, _, _], true) => Some(&[Kind::Adjustment]),
+        ([_, _, _], _) => Some(&[Kind::PhaseIn]),
+        ([_, _, _, _, _, _], true) => Some(&[Kind::PhaseIn, Kind::Adjustment]),
         _ => None,
     }
 }
 
-/// The dues that every sheet has.
-fn required() -> Vec<Due> {
+/// The dues that every sheet of the market has.
+fn required(market: Market) -> impl Iterator<Item = Due> {
     [Due::plain(Kind::Month)]
         .into_iter()
-        .chain(Due::of_each(Kind::Rate, &MATURITIES))
-        .chain(Due::of_each(Kind::Volume, &VOLUME_MATURITIES))
+        .chain(Due::of_each(Kind::Rate, market.maturities))
+        .chain(Due::of_each(Kind::Volume, market.volume_maturities))
         .chain([Due::plain(Kind::Ufr), Due::plain(Kind::Limit)])
-        .collect()
 }
 
 /// A part of the sheet and what is due there.
@@ -205,10 +234,12 @@ fn check<'a>(
 
 /// The numbers of records that passed grounds 2 and 3.
 fn decode(records: &[Record]) -> Sheet {
+    let profile = numbers(records, Kind::Profile).next();
     Sheet {
+        profile: profile.and_then(Market::of_profile),
         month: single(records, Kind::Month),
-        rates: all(records, Kind::Rate),
-        volumes: all(records, Kind::Volume),
+        rates: first(records, Kind::Rate),
+        volumes: first(records, Kind::Volume),
         ufr: single(records, Kind::Ufr),
         limit: single(records, Kind::Limit),
         phase_in: numbers(records, Kind::PhaseIn).next(),
@@ -226,12 +257,16 @@ fn numbers<'a, T: TryFrom<i64>>(records: &'a [Record], kind: Kind) -> impl Itera
     })
 }
 
-fn all<T: TryFrom<i64>, const COUNT: usize>(records: &[Record], kind: Kind) -> [T; COUNT] {
+/// The numbers of the records of `kind`, and 0 past them.
+fn first<T: TryFrom<i64> + Default, const COUNT: usize>(
+    records: &[Record],
+    kind: Kind,
+) -> [T; COUNT] {
     let mut numbers = numbers(records, kind);
-    std::array::from_fn(|_| numbers.next().expect("as many records as are due"))
+    std::array::from_fn(|_| numbers.next().unwrap_or_default())
 }
 
+/// The number of a record that every sheet has.
 fn single<T: TryFrom<i64>>(records: &[Record], kind: Kind) -> T {
-    let [number] = all(records, kind);
-    number
+    numbers(records, kind).next().expect("a record that is due")
 }

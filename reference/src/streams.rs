@@ -9,7 +9,9 @@ use crate::dropped::typed_dropped_sheet;
 use crate::enclosure::{Enclosure, RATE_UNIT, U};
 use crate::journal::{look_up, post, turn, withdrawal};
 use crate::known::known_sheet;
-use crate::sheet::{Sheet, MATURITIES, VOLUME_MATURITIES};
+use crate::market::{Market, MATURITIES};
+use crate::profiled::{in_market, typed_profiled_sheet};
+use crate::sheet::Sheet;
 
 pub(crate) const LARGEST_LIMIT: u32 = 100_000;
 
@@ -60,13 +62,18 @@ impl Random {
 
 /// A sheet's bytes.
 pub fn sheet_bytes(sheet: &Sheet) -> Vec<u8> {
-    let mut bytes = vec![0x01];
+    let market = sheet.market();
+    let mut bytes = Vec::new();
+    if let Some(market) = sheet.profile {
+        bytes.extend([0x08, market.profile]);
+    }
+    bytes.push(0x01);
     bytes.extend(sheet.month.to_be_bytes());
-    for (maturity, rate) in MATURITIES.iter().zip(sheet.rates) {
+    for (maturity, rate) in market.maturities.iter().zip(sheet.rates) {
         bytes.extend([0x02, *maturity]);
         bytes.extend(rate.to_be_bytes());
     }
-    for (maturity, volume) in VOLUME_MATURITIES.iter().zip(sheet.volumes) {
+    for (maturity, volume) in market.volume_maturities.iter().zip(sheet.volumes) {
         bytes.extend([0x03, *maturity]);
         bytes.extend(volume.to_be_bytes());
     }
@@ -106,6 +113,18 @@ pub(crate) fn edge(
         }
     }
     (passes, fails)
+}
+
+/// Moves the rate at the quote `i` of an accepted sheet to the last that is accepted on the way to an
+/// end of its range, or to the next one, which is not.
+pub(crate) fn move_to_edge(random: &mut Random, sheet: &mut Sheet, i: usize) {
+    // One step past the range counts as refused, where the whole range is accepted.
+    let fails = random.one_of(&[LOWEST_QUOTE - 1, HIGHEST_QUOTE + 1]);
+    let (passes, fails) = edge(i64::from(sheet.rates[i]), fails, |rate| {
+        sheet.rates[i] = rate as i16;
+        Curve::plain(sheet).is_ok()
+    });
+    sheet.rates[i] = quote(random.one_of(&[passes, fails]));
 }
 
 /// Rates of one shape: a level, a slope over the maturities, and noise.
@@ -169,6 +188,7 @@ pub(crate) fn volumes_of(random: &mut Random, pattern: u64) -> [u32; 5] {
 /// A sheet of `month` whose numbers are in their ranges (its volumes may all be 0).
 pub fn sheet(random: &mut Random, month: u16) -> Sheet {
     let mut sheet = Sheet {
+        profile: None,
         month,
         rates: rates(random),
         volumes: volumes(random),
@@ -204,7 +224,7 @@ pub(crate) fn limit(random: &mut Random, sheet: &Sheet) -> u32 {
     }
 }
 
-/// Gives the sheet an X and, most often, a 20-year rate on which its convergence factor
+/// Gives the sheet an X and, most often, a rate of the smoothing year on which its convergence factor
 /// depends or that lies at an end of these rates; the other rates move with it.
 pub(crate) fn phase_in(random: &mut Random, sheet: &mut Sheet) {
     sheet.phase_in = Some(match random.below(8) {
@@ -213,13 +233,14 @@ pub(crate) fn phase_in(random: &mut Random, sheet: &mut Sheet) {
         2 | 3 => 20_000,
         _ => random.between(10_000, 20_000) as u16,
     });
-    let rate_20 = match random.below(8) {
+    let smoothing_rate = match random.below(8) {
         0 => return,
         1 => [-501, -500, -499, 499, 500, 501][random.below(6) as usize],
         _ => random.between(-600, 600),
     };
-    let shift = rate_20 - i64::from(sheet.rate_20());
-    for rate in &mut sheet.rates {
+    let shift = smoothing_rate - i64::from(sheet.smoothing_rate());
+    let quotes = sheet.quoted_rates().len();
+    for rate in &mut sheet.rates[..quotes] {
         *rate = quote(i64::from(*rate) + shift);
     }
 }
@@ -246,6 +267,7 @@ pub fn worked(sheet: &Sheet) -> Option<Curves> {
 /// forward rate takes lows to 0. A band of such a factor is narrow, so no limit is set.
 pub fn steep_sheet(random: &mut Random, month: u16) -> Sheet {
     Sheet {
+        profile: None,
         month,
         rates: steep_rates(random),
         volumes: volumes(random),
@@ -300,6 +322,7 @@ fn highest_rate(annuity: Enclosure) -> i64 {
 /// The zero sheet of `month`: rates and UFR 0, volumes 1, limit 100,000.
 pub fn zero_sheet(month: u16) -> Sheet {
     Sheet {
+        profile: None,
         month,
         rates: [0; 17],
         volumes: [1; 5],
@@ -314,6 +337,7 @@ pub fn zero_sheet(month: u16) -> Sheet {
 /// convergence factor follows X.
 pub fn low_rates(month: u16, phase_in: Option<u16>) -> Sheet {
     Sheet {
+        profile: None,
         month,
         rates: [
             -52, -53, -51, -48, -44, -39, -33, -27, -21, -15, -4, 5, 14, 12, 8, -2, -9,
@@ -449,6 +473,16 @@ fn known_records(random: &mut Random, told: u16) -> Vec<u8> {
     records
 }
 
+/// The post of a sheet with a profile record and look-ups of it: around the smoothing years, past
+/// them, and anywhere.
+fn profiled_records(random: &mut Random, told: u16) -> Vec<u8> {
+    let mut records = post(&typed_profiled_sheet(random, told));
+    for (first, last) in [(8, 17), (16, 150), (1, 150)] {
+        records.extend(look_up(random.between(first, last) as u8));
+    }
+    records
+}
+
 /// A stream of `count` whole records.
 pub fn records(random: &mut Random, count: usize) -> Vec<u8> {
     let mut told = 0;
@@ -460,8 +494,9 @@ pub fn records(random: &mut Random, count: usize) -> Vec<u8> {
 }
 
 /// A stream of `count` records, and a few of a steep sheet after one in 60 of them, of a sheet
-/// with dropped quotes after one in 8, of one with an adjustment after one in 5 and of one that
-/// meets a known argument after one in 10, so that the other grounds are met as often as without.
+/// with dropped quotes after one in 8, of one with an adjustment after one in 5, of one that
+/// meets a known argument after one in 10 and of one with a profile record after one in 4, so that
+/// the other grounds are met as often as without.
 pub fn whole_stream(random: &mut Random, count: usize) -> Vec<u8> {
     let mut told = 0;
     let mut stream = Vec::new();
@@ -478,6 +513,9 @@ pub fn whole_stream(random: &mut Random, count: usize) -> Vec<u8> {
         }
         if random.one_in(10) {
             stream.extend(known_records(random, told));
+        }
+        if random.one_in(4) {
+            stream.extend(profiled_records(random, told));
         }
     }
     stream
@@ -509,20 +547,24 @@ pub enum Measured {
     TwoDropped,
     /// An adjustment, so that a second curve is worked.
     Adjusted,
+    /// A profile record of a smaller market, which has fewer quotes and more extrapolated years.
+    Smaller(Market),
 }
 
 impl Measured {
-    const ALL: [Measured; 4] = [
+    const ALL: [Measured; 6] = [
         Measured::Plain,
         Measured::PhaseIn,
         Measured::TwoDropped,
         Measured::Adjusted,
+        Measured::Smaller(Market::TO_10),
+        Measured::Smaller(Market::TO_15),
     ];
 
     /// The sheet, which has an X, an adjustment and all volumes, in this form.
     fn form(self, sheet: &Sheet) -> Sheet {
         let [v20, v25, _, _, v50] = sheet.volumes;
-        Sheet {
+        let formed = Sheet {
             volumes: match self {
                 Measured::TwoDropped => [v20, v25, 0, 0, v50],
                 _ => sheet.volumes,
@@ -530,6 +572,10 @@ impl Measured {
             phase_in: sheet.phase_in.filter(|_| self == Measured::PhaseIn),
             adjustment: sheet.adjustment.filter(|_| self == Measured::Adjusted),
             ..sheet.clone()
+        };
+        match self {
+            Measured::Smaller(market) => in_market(&formed, market),
+            _ => formed,
         }
     }
 }

@@ -4,8 +4,9 @@
 //! Years from the quotes are exact fractions: the earlier years' sum and the newest
 //! factor share one denominator, below 1,700 bits up to order 3 whichever maturities
 //! are traded, so the search for a gap's yearly factor compares whole numbers and no
-//! tie can be undecided. So are adjusted years to 20: e to minus the adjustment of order n is a
-//! fraction too, of a denominator below 300 bits up to order 3.
+//! tie can be undecided. Where smoothing starts after a single year, not a gap, its yearly factor is
+//! that year's fraction over the one before. So are adjusted years to the smoothing year: e to minus
+//! the adjustment of order n is a fraction too, of a denominator below 300 bits up to order 3.
 //! From the logarithm on, exact fractions would grow to millions of digits; there
 //! every value is an interval of fixed-point numbers with 1,024 bits (308 decimal
 //! digits) and outward rounding, and the precision is doubled when a comparison with
@@ -17,10 +18,10 @@ use crate::bigint::BigInt;
 use crate::convergence::RATE_BOUND;
 use crate::curve::{Curve, Which, YEARS};
 use crate::enclosure::{Enclosure, RATE_STEP, RATE_UNIT, U};
-use crate::extrapolation::FIRST_SMOOTHING_POINT;
 use crate::interval::Interval;
+use crate::market::Market;
 use crate::rates::ZeroRates;
-use crate::sheet::{Sheet, MATURITIES, VOLUME_MATURITIES};
+use crate::sheet::Sheet;
 use crate::sums::Sums;
 use crate::weights::HORIZON;
 
@@ -53,6 +54,14 @@ impl Fraction {
             numerator: BigInt::from(numerator),
             denominator: BigInt::from(denominator),
         }
+    }
+
+    /// The quotient by a fraction, not in lowest terms; none unless that one is above 0.
+    fn over(&self, other: &Self) -> Option<Self> {
+        other.numerator.is_positive().then(|| Fraction {
+            numerator: &self.numerator * &other.denominator,
+            denominator: &self.denominator * &other.numerator,
+        })
     }
 
     /// The product, not in lowest terms.
@@ -127,10 +136,11 @@ pub struct Checks {
     pub sums: Vec<SumCheck>,
 }
 
-/// The true curve could not be worked: no multiple is the largest at or below par.
+/// The true curve could not be worked: no multiple is the largest at or below par, or the year
+/// before a single one has no factor above 0.
 #[derive(Clone, Copy, Debug, PartialEq, Eq)]
 pub struct NoYearlyFactor {
-    /// Last maturity of the gap.
+    /// Last maturity of the gap, or that single year.
     pub maturity: u8,
 }
 
@@ -171,12 +181,13 @@ pub fn check_all(
 
 /// The part of the true curve that comes from the quotes.
 struct TrueQuotes {
-    /// True factors of year 1 to the longest maturity that counts, or of adjusted years to 20,
-    /// in billionths.
+    market: Market,
+    /// True factors of year 1 to the longest maturity that counts, or of adjusted years to the
+    /// smoothing year, in billionths.
     factors: Vec<Fraction>,
     /// Every stretch of years with one forward.
     gaps: Vec<TrueGap>,
-    /// What f15,20 has more in LLFR, as a part of one.
+    /// What the last forward before smoothing starts has more in LLFR, as a part of one.
     gain: Fraction,
 }
 
@@ -190,57 +201,71 @@ struct TrueGap {
 
 impl TrueQuotes {
     fn of(sheet: &Sheet, order: usize) -> Result<TrueQuotes, NoYearlyFactor> {
+        let market = sheet.market();
         let mut years = ExactYears::new(order);
         let mut gaps = Vec::new();
-        for (&maturity, &rate) in MATURITIES.iter().zip(&sheet.rates) {
+        for (&maturity, &rate) in market.maturities.iter().zip(sheet.quoted_rates()) {
             if nobody_trades(sheet, maturity) {
                 continue;
             }
             let rate = BigInt::from(i128::from(rate));
             let (start, end) = (years.factors.len(), usize::from(maturity));
-            if end - start > 1 {
-                let yearly_factor = years
-                    .fill_gap(end - start, &rate)
-                    .ok_or(NoYearlyFactor { maturity })?;
-                gaps.push(TrueGap {
-                    start,
-                    end,
-                    yearly_factor,
-                });
-            }
+            let in_gap = match end - start {
+                1 => None,
+                gap_years => {
+                    let found = years.fill_gap(gap_years, &rate);
+                    Some(found.ok_or(NoYearlyFactor { maturity })?)
+                }
+            };
             years.push_par_factor(&rate);
+            let single = || years.last_over_the_one_before();
+            let yearly_factor = match in_gap {
+                None if end == market.smoothing_year() => {
+                    Some(single().ok_or(NoYearlyFactor { maturity })?)
+                }
+                in_gap => in_gap,
+            };
+            gaps.extend(yearly_factor.map(|yearly_factor| TrueGap {
+                start,
+                end,
+                yearly_factor,
+            }));
         }
         Ok(TrueQuotes {
+            market,
             factors: years.factors,
             gaps,
             gain: Fraction::new(0, 1),
         })
     }
 
-    /// Makes the plain years to 20 the adjusted ones: that of year t times the t-th power of e to
-    /// minus the adjustment; f15,20 gains the adjustment. Later years are not on the curve.
+    /// The factors of years 1 to the smoothing year.
+    fn liquid(&self) -> &[Fraction] {
+        &self.factors[..self.market.smoothing_year()]
+    }
+
+    /// Makes the plain years to the smoothing year the adjusted ones: that of year t times the t-th
+    /// power of e to minus the adjustment; the last forward of them gains the adjustment. Later years
+    /// are not on the curve.
     fn adjust(&mut self, adjustment: i16, order: usize) {
         let yearly = true_exp_of_minus(adjustment, order);
         let mut power = Fraction::new(1, 1);
-        self.factors.truncate(FIRST_SMOOTHING_POINT);
+        self.factors.truncate(self.market.smoothing_year());
         for factor in &mut self.factors {
             power = power.times(&yearly);
             *factor = factor.times(&power);
         }
         self.gain = Fraction::new(i128::from(adjustment), RATE_UNIT);
     }
-}
 
-impl TrueQuotes {
-    /// The sums of years 1 to each year up to 20.
+    /// The sums of years 1 to each year up to the smoothing year.
     fn sums(&self) -> Vec<Fraction> {
         let mut sum = Fraction::new(0, 1);
-        let liquid = self.factors[..FIRST_SMOOTHING_POINT].iter();
         let next = |factor| {
             sum = sum.plus_next(factor);
             sum.clone()
         };
-        liquid.map(next).collect()
+        self.liquid().iter().map(next).collect()
     }
 }
 
@@ -267,11 +292,19 @@ fn true_exp_of_minus(adjustment: i16, order: usize) -> Fraction {
     }
 }
 
-/// Whether supervisors dropped the maturity: one beyond 20 whose volume is 0. The curve then
-/// runs on as if it were not quoted.
+/// Whether supervisors dropped the maturity: one beyond the smoothing year whose volume is 0. The
+/// curve then runs on as if it were not quoted.
 fn nobody_trades(sheet: &Sheet, maturity: u8) -> bool {
-    let mut volumes = VOLUME_MATURITIES.into_iter().zip(sheet.volumes);
-    maturity > 20 && volumes.any(|(of, volume)| of == maturity && volume == 0)
+    let beyond = usize::from(maturity) > sheet.market().smoothing_year();
+    beyond && volumes(sheet).any(|(of, volume)| of == maturity && volume == 0)
+}
+
+/// The maturities whose volume the sheet carries, each with it.
+fn volumes(sheet: &Sheet) -> impl Iterator<Item = (u8, u32)> + '_ {
+    let maturities = sheet.market().volume_maturities.iter();
+    maturities
+        .copied()
+        .zip(sheet.carried_volumes().iter().copied())
 }
 
 /// The true years worked so far. Last factor and sum are over the same `denominator`.
@@ -319,6 +352,14 @@ impl ExactYears {
         let numerator = &par - &(rate * &self.sum);
         self.extend_denominator(&divisor);
         self.push(numerator);
+    }
+
+    /// The last year's factor over that of the year before it, which is above 0; else none.
+    fn last_over_the_one_before(&self) -> Option<Fraction> {
+        match &self.factors[..] {
+            [.., before, last] => last.over(before),
+            _ => None,
+        }
     }
 
     /// Appends the years inside a gap that ends with a quote of `rate`, and hands back the
@@ -381,9 +422,9 @@ impl ExactYears {
     }
 }
 
-/// The checks of years 1 to 20, where all is an exact fraction.
+/// The checks of years 1 to the smoothing year, where all is an exact fraction.
 fn liquid_checks(curve: &Curve, sums: &Sums, quotes: &TrueQuotes) -> Checks {
-    let years = (1..).zip(&quotes.factors[..FIRST_SMOOTHING_POINT]);
+    let years = (1..).zip(quotes.liquid());
     let true_sums = quotes.sums();
     Checks {
         years: years
@@ -496,7 +537,7 @@ fn interval_rate_check(year: usize, rates: ZeroRates, enclosed: &Interval) -> Op
     })
 }
 
-/// The checks of years 21 to 150, or none if one is undecided at this precision.
+/// The checks of the years past the smoothing year, or none if one is undecided at this precision.
 fn extrapolated_checks(
     sheet: &Sheet,
     (curve, sums): (&Curve, &Sums),
@@ -504,13 +545,14 @@ fn extrapolated_checks(
     order: usize,
     bits: usize,
 ) -> Option<Checks> {
-    let mut true_sum = quotes.sums()[FIRST_SMOOTHING_POINT - 1].interval(bits);
+    let smoothing_year = quotes.market.smoothing_year();
+    let mut true_sum = quotes.sums()[smoothing_year - 1].interval(bits);
     let mut checks = Checks {
         years: Vec::new(),
         sums: Vec::new(),
     };
     let factors = true_extrapolation(sheet, quotes, order, bits);
-    for (year, enclosed) in (FIRST_SMOOTHING_POINT + 1..=YEARS).zip(&factors) {
+    for (year, enclosed) in (smoothing_year + 1..=YEARS).zip(&factors) {
         let check = interval_check(year, curve.factor(year), enclosed)?;
         checks.years.push(check);
         true_sum = true_sum.add(enclosed);
@@ -520,7 +562,7 @@ fn extrapolated_checks(
     Some(checks)
 }
 
-/// True factors of years 21 to 150, in billionths.
+/// True factors of the years past the smoothing year, in billionths.
 fn true_extrapolation(
     sheet: &Sheet,
     quotes: &TrueQuotes,
@@ -529,9 +571,11 @@ fn true_extrapolation(
 ) -> Vec<Interval> {
     let ultimate = true_log_ultimate(sheet.ufr, order, bits);
     let last_liquid = true_last_liquid_forward(sheet, quotes, order, bits);
-    let mut factor = quotes.factors[FIRST_SMOOTHING_POINT - 1].interval(bits);
+    let smoothing_year = quotes.market.smoothing_year();
+    let mut factor = quotes.factors[smoothing_year - 1].interval(bits);
     let mut factors = Vec::new();
-    for weight in true_weights(&true_convergence(sheet), order, bits) {
+    let weights = true_weights(&true_convergence(sheet), order, bits);
+    for weight in weights.into_iter().take(YEARS - smoothing_year) {
         let rest = Interval::integer(1, bits).sub(&weight);
         let forward = ultimate.mul(&rest).add(&last_liquid.mul(&weight));
         factor = factor.mul(&exp_of_minus(&forward, order));
@@ -560,23 +604,25 @@ fn true_neg_log(x: &BigInt, one: &BigInt, order: usize, bits: usize) -> Interval
     sum.times(2)
 }
 
-/// LLFR as a part of one: f15,20 and the forwards from 20 to each traded maturity after it,
-/// weighed by volume.
+/// LLFR as a part of one: the last forward before smoothing starts and those from the smoothing year
+/// to each traded maturity after it, weighed by volume.
 fn true_last_liquid_forward(
     sheet: &Sheet,
     quotes: &TrueQuotes,
     order: usize,
     bits: usize,
 ) -> Interval {
-    let traded = VOLUME_MATURITIES.into_iter().zip(sheet.volumes);
-    let traded: Vec<_> = traded.filter(|&(_, volume)| volume > 0).collect();
+    let smoothing_year = quotes.market.smoothing_year();
+    let before = quotes.market.years_before_smoothing().start() - 1;
+    let traded: Vec<_> = volumes(sheet).filter(|&(_, volume)| volume > 0).collect();
     let mut sum = Interval::integer(0, bits);
     for &(maturity, volume) in &traded {
-        let forward = if maturity == 20 {
+        let maturity = usize::from(maturity);
+        let forward = if maturity == smoothing_year {
             let gain = quotes.gain.interval(bits);
-            quotes.forward(15, 20, order, bits).add(&gain)
+            quotes.forward(before, maturity, order, bits).add(&gain)
         } else {
-            quotes.forward(20, usize::from(maturity), order, bits)
+            quotes.forward(smoothing_year, maturity, order, bits)
         };
         sum = sum.add(&forward.times(i128::from(volume)));
     }
@@ -599,9 +645,9 @@ impl TrueQuotes {
 }
 
 /// The convergence factor as a part of one, in the words of the phase-in paper: ten percent
-/// at a 20-year rate of 0.5% or higher, X at -0.5% or lower, linear between them.
+/// at a rate of 0.5% or higher in the smoothing year, X at -0.5% or lower, linear between them.
 pub fn true_convergence(sheet: &Sheet) -> Fraction {
-    let (rate, bound) = (i128::from(sheet.rate_20()), i128::from(RATE_BOUND));
+    let (rate, bound) = (i128::from(sheet.smoothing_rate()), i128::from(RATE_BOUND));
     let x = i128::from(sheet.x());
     if rate >= bound {
         Fraction::new(1, 10)
@@ -615,7 +661,7 @@ pub fn true_convergence(sheet: &Sheet) -> Fraction {
     }
 }
 
-/// k(1) to k(130) of order n at `convergence`, all as parts of one.
+/// k(1) to k(140) of order n at `convergence`, all as parts of one.
 pub fn true_weights(convergence: &Fraction, order: usize, bits: usize) -> Vec<Interval> {
     let one_over = Fraction {
         numerator: convergence.denominator.clone(),

@@ -1,5 +1,5 @@
-//! k(h), the weight of the LLFR in the forward of year 20 + h: the table K at a convergence
-//! factor of ten percent, worked for every other.
+//! k(h), the weight of the LLFR in the forward of year h past the smoothing year: the table K at a
+//! convergence factor of ten percent, worked for every other.
 
 use std::sync::OnceLock;
 
@@ -9,13 +9,13 @@ use crate::enclosure::{div_down, div_up, Enclosure, U};
 use crate::interval::Interval;
 use crate::series::growth;
 
-/// Extrapolated years.
-pub const HORIZON: usize = 130;
+/// The most extrapolated years that a curve has: those past a smoothing year of 10.
+pub const HORIZON: usize = 140;
 
 /// About 154 decimal digits, far beyond the nine that K(h) needs.
 const BITS: usize = 512;
 
-/// The enclosures of k(1) to k(130) at `convergence`, that of k(h) at index h - 1.
+/// The enclosures of k(1) to k(140) at `convergence`, that of k(h) at index h - 1.
 pub fn weights(convergence: i128) -> [Enclosure; HORIZON] {
     if convergence == TEN_PERCENT {
         table().map(|weight| Enclosure::new(weight, weight + 1))
@@ -41,7 +41,7 @@ fn worked_weights(convergence: i128) -> [Enclosure; HORIZON] {
     })
 }
 
-/// K(1) to K(130), K(h) at index h - 1: 10 × U × (e^(-(h-1)/10) - e^(-h/10)) rounded down.
+/// K(1) to K(140), K(h) at index h - 1: 10 × U × (e^(-(h-1)/10) - e^(-h/10)) rounded down.
 pub fn table() -> &'static [i128; HORIZON] {
     static TABLE: OnceLock<[i128; HORIZON]> = OnceLock::new();
     TABLE.get_or_init(|| {

@@ -6,6 +6,8 @@ use std::fmt;
 use crate::accepted::Count;
 use crate::adjusted::adjustment;
 use crate::journal::{calls, post, turn, withdrawal, Call};
+use crate::market::Market;
+use crate::profiled::in_market;
 use crate::sheet::{Sheet, LAST_MONTH};
 use crate::streams::{low_rates, sheet_bytes, Random};
 
@@ -35,14 +37,20 @@ pub fn withdrawals(random: &mut Random) -> Vec<u8> {
 }
 
 /// A sheet of `month` that only its month can turn down. Its rates are moved as a whole, so that
-/// hardly any two have the same curve; half of them have an adjustment.
+/// hardly any two have the same curve; half of those of the euro have an adjustment, and one in 8 is
+/// of a smaller market.
 fn accepted_sheet(random: &mut Random, month: u16) -> Sheet {
     let shift = random.between(0, 3_000) as i16;
     let x = random.one_in(4).then_some(15_000);
     let mut sheet = low_rates(month, x);
     sheet.rates = sheet.rates.map(|rate| rate + shift);
     sheet.adjustment = random.one_in(2).then(|| adjustment(random));
-    sheet
+    match random.below(16) {
+        0 => in_market(&sheet, Market::TO_10),
+        1 => in_market(&sheet, Market::TO_15),
+        2 => in_market(&sheet, Market::EURO),
+        _ => sheet,
+    }
 }
 
 /// What withdrawals can meet.
@@ -53,6 +61,7 @@ pub enum Meeting {
     AdjustedLost,
     AdjustedBack,
     ThirdInARow,
+    ToAnotherMarket,
     RefusedWithoutCurve,
     RefusedWithCurve,
     PostedBeforeWithdrawn,
@@ -60,12 +69,13 @@ pub enum Meeting {
 
 impl Meeting {
     /// Every one.
-    pub const ALL: [Meeting; 8] = [
+    pub const ALL: [Meeting; 9] = [
         Meeting::ToNoCurve,
         Meeting::ToAnEarlierMonth,
         Meeting::AdjustedLost,
         Meeting::AdjustedBack,
         Meeting::ThirdInARow,
+        Meeting::ToAnotherMarket,
         Meeting::RefusedWithoutCurve,
         Meeting::RefusedWithCurve,
         Meeting::PostedBeforeWithdrawn,
@@ -85,6 +95,10 @@ impl Meeting {
             (Meeting::AdjustedLost, was && !is && after.is_some()),
             (Meeting::AdjustedBack, is && !was),
             (Meeting::ThirdInARow, row == 3),
+            (
+                Meeting::ToAnotherMarket,
+                after.is_some_and(|after| after.market() != before.market()),
+            ),
         ];
         let met = met.into_iter().filter(|(_, met)| *met);
         met.map(|(meeting, _)| meeting).collect()
@@ -99,6 +113,7 @@ impl fmt::Display for Meeting {
             Meeting::AdjustedLost => "accepted, from an adjusted curve to none",
             Meeting::AdjustedBack => "accepted, from no adjusted curve to one",
             Meeting::ThirdInARow => "accepted as the third in a row",
+            Meeting::ToAnotherMarket => "accepted, back to a curve of another market",
             Meeting::RefusedWithoutCurve => "refused where there is no curve",
             Meeting::RefusedWithCurve => "refused where a curve still stands",
             Meeting::PostedBeforeWithdrawn => {

@@ -17,6 +17,7 @@ use reference::desk::run_desk;
 use reference::enclosure::{Enclosure, U};
 use reference::extrapolation::{last_liquid_forward, log_ultimate};
 use reference::journal::{book_after, look_up, post, turn};
+use reference::market::Market;
 use reference::questions::{journal, page_kind};
 use reference::rates::ZeroRates;
 use reference::refusal::Refusal;
@@ -231,10 +232,10 @@ fn the_plain_curve_is_not_moved() {
 fn in_llfr_the_forward_of_15_to_20_alone_gains() {
     let quoted = bootstrap(&read(&november())).unwrap();
     for adjustment in ADJUSTMENTS {
-        let moved = adjusted_forwards(&quoted.forwards, adjustment);
+        let moved = adjusted_forwards(Market::EURO, &quoted.forwards, adjustment);
         let gain = |volumes: [u32; 5]| {
-            let plain = last_liquid_forward(&volumes, &quoted.forwards);
-            let adjusted = last_liquid_forward(&volumes, &moved);
+            let plain = last_liquid_forward(Market::EURO, &volumes, &quoted.forwards);
+            let adjusted = last_liquid_forward(Market::EURO, &volumes, &moved);
             (adjusted.low - plain.low, adjusted.high - plain.high)
         };
         let whole = 10_000 * i128::from(adjustment);

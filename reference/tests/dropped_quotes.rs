@@ -12,6 +12,7 @@ use reference::dropped::{dropped_sheet, typed_dropped_sheet, DroppedPosts, MERGE
 use reference::enclosure::{Enclosure, U};
 use reference::extrapolation::last_liquid_forward;
 use reference::forwards::YearForwards;
+use reference::market::Market;
 use reference::questions::journal;
 use reference::refusal::Refusal;
 use reference::sheet::Sheet;
@@ -170,13 +171,15 @@ fn a_volume_of_0_at_20_drops_its_weight_alone() {
 #[test]
 fn each_year_of_a_merged_gap_has_its_forward() {
     let forwards = |gaps: &[(usize, i128)]| {
-        let mut years = YearForwards::default();
+        let mut years = YearForwards::new(Market::EURO);
         for &(gap_years, forward) in gaps {
-            years.push_gap(gap_years, Enclosure::new(forward, forward + 1));
+            years.push_years(gap_years, Enclosure::new(forward, forward + 1));
         }
         years
     };
-    let mean = |volumes, gaps: &[(usize, i128)]| last_liquid_forward(&volumes, &forwards(gaps));
+    let mean = |volumes: [u32; 5], gaps: &[(usize, i128)]| {
+        last_liquid_forward(Market::EURO, &volumes, &forwards(gaps))
+    };
     let (g1, g, h) = ((5, 1_000), (20, 60), (10, 900));
     assert_eq!(
         mean([0, 0, 0, 0, 7], &[g1, (30, 61)]),

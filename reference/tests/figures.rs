@@ -9,6 +9,7 @@ use reference::desk::run_desk;
 use reference::enclosure::{Enclosure, U};
 use reference::extrapolation::{last_liquid_forward, log_ultimate};
 use reference::forwards::YearForwards;
+use reference::market::Market;
 use reference::refusal::Refusal;
 use reference::series::{growth, neg_log};
 use reference::sheet::Sheet;
@@ -192,9 +193,9 @@ fn table_of_weights_is_the_whole_part_at_every_order() {
 
 /// Years 16 to 50 with these forwards in gaps 15-20, 20-25, 25-30, 30-40 and 40-50.
 fn in_all_gaps(forwards: [i128; 5]) -> YearForwards {
-    let mut years = YearForwards::default();
+    let mut years = YearForwards::new(Market::EURO);
     for (gap_years, g) in [5, 5, 5, 10, 10].into_iter().zip(forwards) {
-        years.push_gap(gap_years, Enclosure::new(g, g));
+        years.push_years(gap_years, Enclosure::new(g, g));
     }
     years
 }
@@ -205,7 +206,7 @@ fn mean_forwards_run_from_year_20() {
     let mean = |maturity: usize| {
         let mut volumes = [0; 5];
         volumes[maturity] = 7;
-        let mean = last_liquid_forward(&volumes, &forwards);
+        let mean = last_liquid_forward(Market::EURO, &volumes, &forwards);
         (mean.low, mean.high)
     };
     assert_eq!(mean(0), (10, 10));
@@ -221,7 +222,7 @@ fn mean_forwards_run_from_year_20() {
 fn forwards_below_zero_round_down_and_up() {
     let forwards = in_all_gaps([-1, 0, 0, 0, 0]);
     assert_eq!(
-        last_liquid_forward(&[1, 1, 0, 0, 0], &forwards),
+        last_liquid_forward(Market::EURO, &[1, 1, 0, 0, 0], &forwards),
         Enclosure::new(-1, 0)
     );
 }
@@ -268,7 +269,12 @@ fn ground_2_names_the_first_record_of_other_kind_or_maturity() {
     for (record, offset) in (1..).zip(offsets()) {
         let kind = zero().bytes()[offset];
         for other in (0..=255).filter(|&byte| byte != kind) {
-            assert_eq!(sheet_refusal(&altered(offset, other)), Some((2, record)));
+            // A first byte of hex 08 names a profile, and the month's high byte is none.
+            let expected = match (record, other) {
+                (1, 0x08) => (19, 0),
+                _ => (2, record),
+            };
+            assert_eq!(sheet_refusal(&altered(offset, other)), Some(expected));
         }
         if (2..=23).contains(&record) {
             let maturity = zero().bytes()[offset + 1];

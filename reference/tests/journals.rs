@@ -21,14 +21,14 @@ fn every_ground_is_met() {
         journal.extend(record);
         met.insert(number);
     }
-    assert_eq!(met, (0..=14).chain(16..=18).collect());
+    assert_eq!(met, (0..=14).chain(16..=19).collect());
     assert!(book_after(AGE_LIMIT, &journal)
         .look_up(Which::Plain, 150)
         .is_ok());
 }
 
 #[test]
-fn a_desk_meets_every_ground_but_16_and_18() {
+fn a_desk_without_profiles_meets_every_ground_but_16_18_and_19() {
     let mut journal = Vec::new();
     let mut met = BTreeSet::new();
     for (record, number, place) in desk_records() {

@@ -6,15 +6,17 @@ use std::process::Command;
 
 use reference::counts::PostCounts;
 use reference::desk::run_desk;
+use reference::profiled::{Meeting, FORMS, GROUNDS};
 
 /// The streams that `vectors` writes, with its arguments.
-const WRITTEN: [(&str, &[&str]); 6] = [
+const WRITTEN: [(&str, &[&str]); 7] = [
     ("phase_in", &[]),
     ("zero_rates", &["zero_rates"]),
     ("dropped", &["dropped"]),
     ("adjustment", &["adjustment"]),
     ("withdrawal", &["withdrawal"]),
     ("slack", &["slack"]),
+    ("markets", &["markets"]),
 ];
 
 fn stored(name: &str) -> Vec<u8> {
@@ -66,4 +68,21 @@ fn the_stream_of_slack_meets_all_that_slack_would_change() {
     counts.count_journal(&stored("slack.stdin"));
     println!("{}", counts.known);
     counts.known.check().unwrap();
+}
+
+#[test]
+fn the_stream_of_markets_meets_every_profile_and_every_refusal_of_one() {
+    let stream = stored("markets.stdin");
+    let mut counts = PostCounts::default();
+    counts.count_journal(&stream);
+    println!("{}", counts.markets);
+    for form in FORMS {
+        assert!(counts.markets.of_form(form).accepted > 0, "{form:?}");
+    }
+    for due in GROUNDS {
+        assert!(counts.markets.refused(due) > 0, "{due}");
+    }
+    for meeting in Meeting::ALL {
+        assert!(counts.markets.of(meeting) > 0, "{meeting}");
+    }
 }

@@ -1,7 +1,7 @@
 //! Times posts and a page through the C interface against the second implementation, on
 //! the same journal, in turn, in one run on one machine: bench [POSTS]. Then the same posts
-//! with an X, whose weights are worked anew in each, with two dropped quotes, and with an
-//! adjustment, whose second curve is paged. Then short journals of posts, and the same with a
+//! with an X, whose weights are worked anew in each, with two dropped quotes, with an
+//! adjustment, whose second curve is paged, and of the smaller markets. Then short journals of posts, and the same with a
 //! withdrawal in place of every third, which tells what a withdrawal costs beside a post. Then pages
 //! of one post's curve, and look-ups of its factors and of its sums.
 
@@ -12,6 +12,7 @@ use interface::{look_after, page_after, ADJUSTED, PLAIN, SUM};
 use reference::book::{LARGEST_AGE_LIMIT, PAGE_LENGTH};
 use reference::curve::Which;
 use reference::journal::{book_after, look_up_by};
+use reference::market::Market;
 use reference::streams::{accepted_posts, posts_and_withdrawals, Measured};
 
 /// The fastest of these runs counts, as the least disturbed one.
@@ -39,6 +40,8 @@ fn main() {
         ("with X", Measured::PhaseIn, PLAIN),
         ("with two dropped quotes", Measured::TwoDropped, PLAIN),
         ("with an adjustment", Measured::Adjusted, ADJUSTED),
+        ("of profile 2", Measured::Smaller(Market::TO_10), PLAIN),
+        ("of profile 3", Measured::Smaller(Market::TO_15), PLAIN),
     ] {
         time_posts(sheets, posts, named, &accepted_posts(SEED, posts, measured));
     }

@@ -6,7 +6,8 @@
 //! fails where one never met 16, where one that asks for rates never met 17, where no adjusted curve
 //! was shown or missing, where no sum was shown or refused with 14, where no sheet was accepted with
 //! some gap that runs on over a dropped maturity, or with some tail, where slack would change none
-//! in some way, or where some sort of withdrawal was not met.
+//! in some way, where some profile was not accepted, not shown in some way or did not meet one of its
+//! grounds, or where some sort of withdrawal was not met.
 //!
 //!     differential [SEED [POSTS]]
 
@@ -72,6 +73,7 @@ impl Seen {
     /// Says what was not met even once.
     fn check(&self) -> Result<(), String> {
         self.met.check(&Kind::ALL)?;
+        self.met.check_markets()?;
         self.counts.check()?;
         self.withdrawals.check()
     }

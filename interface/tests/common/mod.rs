@@ -12,6 +12,7 @@ pub fn journals() -> u64 {
 
 /// The journal under age limits of every sort, and under those around its curve's age. The
 /// second implementation replays it under each.
+#[allow(dead_code)]
 pub fn cases<'a>(random: &mut Random, journal: &'a [u8]) -> Vec<Case<'a>> {
     let first = Case::replayed(0, journal);
     let around = first.age().into_iter().flat_map(limits_around);

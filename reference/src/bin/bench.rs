@@ -1,7 +1,7 @@
 //! Times desk programs on a stream of posts, in turn, in one run on one machine, once it has
 //! seen that they print the same; then on the same posts with an X, whose weights are worked
-//! anew in each, with two dropped quotes, and with an adjustment, for which each works a second
-//! curve; then on look-ups after one post, those of each of three years apart, since the rates of
+//! anew in each, with two dropped quotes, with an adjustment, for which each works a second
+//! curve, and with what of them the smaller markets take; then on look-ups after one post, those of each of three years apart, since the rates of
 //! a late year take more steps. The first desk's time is the denominator of the ratios.
 //!
 //!     bench POSTS NAME=DESK NAME=DESK..
@@ -11,6 +11,7 @@ use std::path::PathBuf;
 use std::process::{Command, ExitCode, Stdio};
 use std::time::{Duration, Instant};
 
+use reference::market::Market;
 use reference::streams::{accepted_posts, look_ups, Measured};
 
 /// Each desk is run this often; the fastest run counts, as the least disturbed one.
@@ -88,6 +89,8 @@ fn bench(posts: usize, desks: &[Desk]) -> Result<(), String> {
         ("with X", Measured::PhaseIn),
         ("with two dropped quotes", Measured::TwoDropped),
         ("with an adjustment", Measured::Adjusted),
+        ("of profile 2", Measured::Smaller(Market::TO_10)),
+        ("of profile 3", Measured::Smaller(Market::TO_15)),
     ] {
         let with = run(&posts_of(name, posts, measured), desks)?;
         for ((desk, with), without) in desks.iter().zip(with).zip(&without) {

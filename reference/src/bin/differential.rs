@@ -1,14 +1,16 @@
 //! Runs another desk program on seeded record streams and compares its lines, byte
 //! for byte, with this implementation's; fails where no look-up was turned down on 17, where no
 //! sheet was accepted with some gap that runs on over a dropped maturity, where some tail of a
-//! sheet, or a refusal for the adjusted curve alone, was not met, or where no accepted post shows
-//! that nothing is added to the high of a known logarithm or growth. Then checks on sampled sheets
-//! that the bands of the plain and the adjusted curve hold their true factors of orders 0 to 3,
-//! that the true curves' own rates lie between the rates, and that their sums of years 1 to each
-//! year lie between the ends of the sums; some of these must meet a known value.
+//! sheet, or a refusal for the adjusted curve alone, was not met, where no accepted post shows
+//! that nothing is added to the high of a known logarithm or growth, or where some profile was not
+//! accepted in some form or did not meet one of its grounds. Then checks on sampled sheets of all
+//! markets that the bands of the plain and the adjusted curve hold their true factors of orders 0
+//! to 3, that the true curves' own rates lie between the rates, and that their sums of years 1 to
+//! each year lie between the ends of the sums; some of these must meet a known value.
 //!
 //!     differential DESK [SEED [POSTS [SAMPLES]]]
 
+use std::collections::BTreeMap;
 use std::fmt;
 use std::io::Write;
 use std::process::{Command, ExitCode, Stdio};
@@ -21,6 +23,8 @@ use reference::desk::run_desk;
 use reference::dropped::dropped_sheet;
 use reference::journal::calls;
 use reference::known::known_sheet;
+use reference::market::Market;
+use reference::profiled::small_sheet;
 use reference::rates::ZeroRates;
 use reference::sheet::Sheet;
 use reference::streams::{sheet, sheet_bytes, steep_sheet, stream, worked, Random};
@@ -32,8 +36,11 @@ const RECORDS: usize = 1_000;
 const ORDERS: usize = 4;
 
 /// Of so many samples one is a steep sheet, in which some years have no high rate, two have
-/// dropped quotes, three an adjustment and two meet a known value.
-const ROUND: u64 = 10;
+/// dropped quotes, three an adjustment, two meet a known value and two are of the smaller markets.
+const ROUND: u64 = 12;
+
+/// So many samples have all of these among them.
+const ENOUGH: u64 = 10;
 
 /// What was compared.
 #[derive(Default)]
@@ -56,18 +63,40 @@ struct Checked {
     sums: u64,
     wide_sums: u64,
     counts: PostCounts,
+    /// Sheets by profile.
+    by_profile: BTreeMap<u8, u64>,
+}
+
+impl Checked {
+    fn of(&self, market: Market) -> u64 {
+        let sheets = self.by_profile.get(&market.profile);
+        sheets.copied().unwrap_or_default()
+    }
+
+    /// Says what so many samples should have met and did not.
+    fn check(&self) -> Result<(), String> {
+        if self.counts.known.all() == 0 {
+            return Err("no sampled sheet meets a known value".to_string());
+        }
+        match Market::ALL.iter().find(|&&market| self.of(market) == 0) {
+            Some(market) => Err(format!("no sampled sheet has profile {}", market.profile)),
+            None => Ok(()),
+        }
+    }
 }
 
 impl fmt::Display for Checked {
     fn fmt(&self, f: &mut fmt::Formatter<'_>) -> fmt::Result {
         write!(
             f,
-            "the plain curves of {} sheets, {} with dropped quotes, and {} adjusted ones hold their \
-             true factors of orders 0 to 3, and {} of their years the true rates, {} have none; {} \
-             sums hold the true ones, {} of them wider than the limit; slack at known values would \
-             change {} sheets",
+            "the plain curves of {} sheets, {} with dropped quotes, {} of profile 2 and {} of \
+             profile 3, and {} adjusted ones hold their true factors of orders 0 to 3, and {} of \
+             their years the true rates, {} have none; {} sums hold the true ones, {} of them wider \
+             than the limit; slack at known values would change {} sheets of the euro",
             self.sheets,
             self.counts.dropped.all.accepted,
+            self.of(Market::TO_10),
+            self.of(Market::TO_15),
             self.adjusted,
             self.years_with_rates,
             self.years_without,
@@ -201,14 +230,16 @@ fn check_truth(seed: u64, samples: u64) -> Result<Checked, String> {
             1 | 2 => dropped_sheet(&mut random, 0),
             3..=5 => adjusted_sheet(&mut random, 0),
             6 | 7 => known_sheet(&mut random, 0),
+            8 => small_sheet(&mut random, Market::TO_10, 0),
+            9 => small_sheet(&mut random, Market::TO_15, 0),
             _ => sheet(&mut random, 0),
         };
         if let Some(curves) = worked(&sheet) {
             check_sheet(&sheet, &curves, &mut checked)?;
         }
     }
-    if samples >= ROUND && checked.counts.known.all() == 0 {
-        return Err("no sampled sheet meets a known value".to_string());
+    if samples >= ENOUGH {
+        checked.check()?;
     }
     Ok(checked)
 }
@@ -226,6 +257,8 @@ fn check_sheet(sheet: &Sheet, curves: &Curves, checked: &mut Checked) -> Result<
     }
     checked.adjusted += u64::from(curves.adjusted.is_some());
     checked.counts.count(&sheet_bytes(sheet), 0);
+    let profile = sheet.market().profile;
+    *checked.by_profile.entry(profile).or_default() += 1;
     checked.sheets += 1;
     if checked.sheets.is_multiple_of(50) {
         let (sheets, adjusted) = (checked.sheets, checked.adjusted);

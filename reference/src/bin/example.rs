@@ -46,6 +46,7 @@ fn sheet(month: u16, shift: i16) -> Sheet {
         2_860, 2_900, 2_880, 2_840,
     ];
     Sheet {
+        profile: None,
         month,
         rates: rates.map(|rate| rate + shift),
         volumes: [1_200, 350, 900, 210, 430],

@@ -1,4 +1,4 @@
-//! Reads a sheet from standard input and an order n as first argument; writes
+//! Reads a sheet of any profile from standard input and an order n as first argument; writes
 //! `year low high inside low-rate high-rate between` for each year, with `-` in place of the
 //! last three where the year has no rates, or the line of the refusal. With `adjusted` as a
 //! further argument the years are those of the adjusted curve, in place of the plain one; it is
@@ -71,7 +71,7 @@ fn write_checks(
         }
         Err(missing) => {
             eprintln!(
-                "no true yearly factor in the gap that ends at {}",
+                "no true yearly factor in the gap or year that ends at {}",
                 missing.maturity
             );
             Ok(ExitCode::FAILURE)

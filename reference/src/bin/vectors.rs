@@ -6,6 +6,7 @@
 //!     vectors adjustment
 //!     vectors withdrawal
 //!     vectors slack
+//!     vectors markets
 //!
 //! The first, stored as phase_in, reaches grounds 1 to 14, with many places, and accepted
 //! curves at many convergence factors, each looked up at its ends, around the smoothing year
@@ -16,7 +17,9 @@
 //! the desk's look-ups are of the plain curve, and sheets that only their adjusted curve turns
 //! down. The fifth has a journal's withdrawal, which the desk does not know, and records behind it
 //! that it must not serve. The sixth has sheets that meet U in a logarithm or 0 in a growth, where
-//! nothing is added to the high: at the least limit, at their widest bands and just below.
+//! nothing is added to the high: at the least limit, at their widest bands and just below. The
+//! seventh has sheets with a profile record: accepted curves of all three profiles, some with all 150
+//! years looked up, the ends of what year 10 over year 9 may be, and every refusal.
 
 use std::io::Write;
 use std::process::ExitCode;
@@ -27,6 +30,8 @@ use reference::dropped::{dropped_sheet, typed_dropped_sheet};
 use reference::every_ground;
 use reference::journal::{look_up, post, turn, withdrawal};
 use reference::known::known_sheet;
+use reference::market::Market;
+use reference::profiled::{in_market, typed_profiled_sheet};
 use reference::rates::ZeroRates;
 use reference::sheet::Sheet;
 use reference::streams::{
@@ -89,6 +94,12 @@ const YEARS_OF_KNOWN: [u8; 5] = [1, 20, 21, 22, 150];
 /// Its seeded posts.
 const ANY_KNOWN: usize = 80;
 
+/// Years at which curves in the stream of markets are looked up.
+const YEARS_OF_MARKETS: [u8; 8] = [1, 9, 10, 11, 15, 16, 21, 150];
+
+/// Its seeded posts.
+const ANY_PROFILED: usize = 400;
+
 fn main() -> std::io::Result<ExitCode> {
     let words: Vec<_> = std::env::args().skip(1).collect();
     let stream = match words.iter().map(String::as_str).collect::<Vec<_>>()[..] {
@@ -98,8 +109,11 @@ fn main() -> std::io::Result<ExitCode> {
         ["adjustment"] => adjustment(),
         ["withdrawal"] => withdrawn(),
         ["slack"] => slack(),
+        ["markets"] => markets(),
         _ => {
-            eprintln!("usage: vectors [zero_rates | dropped | adjustment | withdrawal | slack]");
+            eprintln!(
+                "usage: vectors [zero_rates | dropped | adjustment | withdrawal | slack | markets]"
+            );
             return Ok(ExitCode::from(2));
         }
     };
@@ -247,6 +261,97 @@ fn slack() -> Vec<u8> {
     stream
 }
 
+fn markets() -> Vec<u8> {
+    let mut random = Random::new(SEED);
+    let mut stream = bytes(every_ground::base_records());
+    stream.extend(bytes(every_ground::market_records()));
+    stream.extend(turn(LAST_MONTH));
+    let rising = Sheet {
+        rates: std::array::from_fn(|i| 100 + 7 * i as i16),
+        phase_in: Some(20_000),
+        ..flat(0, 345)
+    };
+    for sheet in [flat(3_000, 345), rising, low_rates(LAST_MONTH, None)] {
+        for market in Market::ALL {
+            stream.extend(posted_and_looked_up(&in_market(&sheet, market)));
+        }
+    }
+    for sheet in [at_the_ends_of_x(), at_the_cut_of_the_rate()].concat() {
+        stream.extend(post(&sheet_bytes(&sheet)));
+        stream.extend(YEARS_OF_MARKETS.into_iter().flat_map(look_up));
+    }
+    stream.extend(profiles_and_lengths());
+    for _ in 0..ANY_PROFILED {
+        stream.extend(post(&typed_profiled_sheet(&mut random, LAST_MONTH)));
+        stream.extend(look_up(random.between(9, 17) as u8));
+        stream.extend(look_up(random.between(1, 150) as u8));
+    }
+    // The curve that stays is of a smaller market, as is the one before it.
+    for market in Market::SMALLER {
+        stream.extend(post(&sheet_bytes(&in_market(&flat(3_000, 345), market))));
+        stream.extend(YEARS_OF_MARKETS.into_iter().flat_map(look_up));
+    }
+    // A sheet of 59 bytes without its last one.
+    stream.extend([&[0x50, 0, 59], &[0x08; 58][..]].concat());
+    stream
+}
+
+/// Sheets of profile 2 whose year 10 over year 9 has its low at 800,000,000 or just below, or its
+/// high at 1,100,000,000 or just above: rates to year 8, of year 9 and of year 10.
+fn at_the_ends_of_x() -> Vec<Sheet> {
+    let ends = [
+        (1_200, 1_009, 2_910),
+        (3_718, 4_366, 5_751),
+        (3_422, 4_843, 3_660),
+        (5_800, 5_985, 4_680),
+    ];
+    let sheet = |(level, ninth, tenth): (i16, i16, i16)| {
+        let mut sheet = flat(level, 0);
+        sheet.rates[8..10].copy_from_slice(&[ninth, tenth]);
+        in_market(&sheet, Market::TO_10)
+    };
+    ends.map(sheet).to_vec()
+}
+
+/// Sheets of each market whose quote of the smoothing year, and no other, decides the convergence
+/// factor.
+fn at_the_cut_of_the_rate() -> Vec<Sheet> {
+    let mut sheets = Vec::new();
+    for market in Market::ALL {
+        for rate in [-501, -500, -499, 0, 499, 500, 501] {
+            let mut sheet = flat(0, 345);
+            sheet.rates[market.smoothing_quote()] = rate;
+            sheet.phase_in = Some(20_000);
+            sheets.push(in_market(&sheet, market));
+        }
+    }
+    sheets
+}
+
+/// Every profile byte before some sheets, and sheets of every profile cut or made longer.
+fn profiles_and_lengths() -> Vec<u8> {
+    let mut stream = Vec::new();
+    for byte in [0, 1, 2, 3, 4, 5, 6, 7, 8, 9, 127, 128, 254, 255] {
+        stream.extend(post(&[0x08, byte]));
+        for market in Market::ALL {
+            let mut sheet = sheet_bytes(&in_market(&flat(0, 0), market));
+            sheet[1] = byte;
+            stream.extend(post(&sheet));
+        }
+    }
+    for market in Market::ALL {
+        let sheet = sheet_bytes(&in_market(&flat(0, 0), market));
+        for length in (0..=3).chain(sheet.len() - 3..=sheet.len() + 7) {
+            for more in [0x06, 0x07] {
+                let mut other = sheet.clone();
+                other.resize(length, more);
+                stream.extend(post(&other));
+            }
+        }
+    }
+    stream
+}
+
 fn within(limit: u32, sheet: Sheet) -> Sheet {
     Sheet { limit, ..sheet }
 }
@@ -387,6 +492,7 @@ fn posted_and_looked_up(sheet: &Sheet) -> Vec<u8> {
 
 fn flat(rate: i16, ufr: u16) -> Sheet {
     Sheet {
+        profile: None,
         month: LAST_MONTH,
         rates: [rate; 17],
         volumes: [1; 5],

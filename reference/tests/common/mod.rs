@@ -6,6 +6,8 @@ pub const MATURITIES: [u8; 17] = [1, 2, 3, 4, 5, 6, 7, 8, 9, 10, 12, 15, 20, 25,
 /// The numbers of a sheet, not checked in any way.
 #[derive(Clone)]
 pub struct Numbers {
+    /// The byte of the profile record, where the sheet has it.
+    pub profile: Option<u8>,
     pub month: u16,
     pub rates: [i16; 17],
     pub volumes: [u32; 5],
@@ -20,6 +22,7 @@ pub struct Numbers {
 /// The zero sheet: month, rates and UFR 0, volumes 1, limit 100,000.
 pub fn zero() -> Numbers {
     Numbers {
+        profile: None,
         month: 0,
         rates: [0; 17],
         volumes: [1; 5],
@@ -53,6 +56,26 @@ pub fn november() -> Numbers {
 }
 
 impl Numbers {
+    /// The sheet with the profile's record, and without an adjustment under a smaller profile. Only
+    /// the first of its quotes and volumes then count.
+    #[allow(dead_code)]
+    pub fn of_profile(self, profile: u8) -> Self {
+        Numbers {
+            profile: Some(profile),
+            adjustment: self.adjustment.filter(|_| ![2, 3].contains(&profile)),
+            ..self
+        }
+    }
+
+    /// The quoted maturities and those with a volume: of the euro, unless the profile is 2 or 3.
+    fn maturities(&self) -> (&'static [u8], &'static [u8]) {
+        match self.profile {
+            Some(2) => (&[1, 2, 3, 4, 5, 6, 7, 8, 9, 10], &[10]),
+            Some(3) => (&[1, 2, 3, 4, 5, 6, 7, 8, 9, 10, 12, 15], &[15]),
+            _ => (&MATURITIES, &[20, 25, 30, 40, 50]),
+        }
+    }
+
     /// The sheet with the phase-in's record.
     #[allow(dead_code)]
     pub fn with_x(self, x: u16) -> Self {
@@ -84,14 +107,19 @@ impl Numbers {
 
     /// The sheet's bytes.
     pub fn bytes(&self) -> Vec<u8> {
-        let mut bytes = vec![0x01];
+        let (quoted, traded) = self.maturities();
+        let mut bytes = Vec::new();
+        if let Some(profile) = self.profile {
+            bytes.extend([0x08, profile]);
+        }
+        bytes.push(0x01);
         bytes.extend(self.month.to_be_bytes());
-        for (maturity, rate) in MATURITIES.into_iter().zip(self.rates) {
-            bytes.extend([0x02, maturity]);
+        for (maturity, rate) in quoted.iter().zip(self.rates) {
+            bytes.extend([0x02, *maturity]);
             bytes.extend(rate.to_be_bytes());
         }
-        for (maturity, volume) in [20, 25, 30, 40, 50].into_iter().zip(self.volumes) {
-            bytes.extend([0x03, maturity]);
+        for (maturity, volume) in traded.iter().zip(self.volumes) {
+            bytes.extend([0x03, *maturity]);
             bytes.extend(volume.to_be_bytes());
         }
         bytes.push(0x04);

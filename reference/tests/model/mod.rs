@@ -2,12 +2,14 @@
 //! LLFR is the paper's formula on the forwards g1 to g5 of gaps 15-20, 20-25, 25-30, 30-40 and
 //! 40-50: with every quote this is the rule from before quotes were dropped. Where a gap runs
 //! on over dropped maturities, its forward stands for each of these gaps inside it. The adjusted
-//! curve starts again from the same years and forwards. Logarithm and growth are given, so that
-//! what another rule would make of a sheet can be told.
+//! curve starts again from the same years and forwards. Of a smaller market LLFR is the forward just
+//! before its smoothing year. Logarithm and growth are given, so that what another rule would make
+//! of a sheet can be told.
 
 use reference::enclosure::Enclosure;
+use reference::market::MATURITIES;
 use reference::series::{growth, neg_log};
-use reference::sheet::{Sheet, MATURITIES};
+use reference::sheet::Sheet;
 use reference::weights::weights;
 
 const U: i128 = 1_000_000_000;
@@ -60,7 +62,7 @@ impl Model {
     /// The same with any logarithm and growth.
     pub fn with(sheet: &Sheet, later: &[u8], series: Series) -> Result<Model, Ground> {
         let (years, g) = Model::quoted(sheet, later, series)?;
-        years.extrapolate(sheet, llfr(sheet.volumes, g), series)
+        years.extrapolate(sheet, 20, llfr(sheet.volumes, g), series)
     }
 
     /// The plain curve and, with the sheet's adjustment, the adjusted one, or the first ground of
@@ -92,7 +94,7 @@ impl Model {
             }
         }
         g[0] = (g[0].0 + more, g[0].1 + more);
-        let adjusted = years.extrapolate(sheet, llfr(sheet.volumes, g), series)?;
+        let adjusted = years.extrapolate(sheet, 20, llfr(sheet.volumes, g), series)?;
         Ok([plain, adjusted])
     }
 
@@ -121,6 +123,34 @@ impl Model {
             years.push_by_par(rate)?;
         }
         Ok((years, g))
+    }
+
+    /// The curve of a sheet of profile 2 or 3.
+    #[allow(dead_code)]
+    pub fn of_smaller(sheet: &Sheet, profile: u8, series: Series) -> Result<Model, Ground> {
+        let quotes = match profile {
+            2 => &MATURITIES[..10],
+            _ => &MATURITIES[..12],
+        };
+        let mut years = Model::default();
+        let mut x = (0, 0);
+        for (&maturity, rate) in quotes.iter().zip(sheet.rates.map(i128::from)) {
+            if usize::from(maturity) > years.lows.len() + 1 {
+                x = years.fill_gap(usize::from(maturity), rate)?;
+            }
+            years.push_by_par(rate)?;
+        }
+        if profile == 2 {
+            let (low_9, high_9) = (years.lows[8], years.highs[8]);
+            let (low_10, high_10) = (years.lows[9], years.highs[9]);
+            x = (down(low_10 * U, high_9), up(high_10 * U, low_9));
+            if x.0 < 800_000_000 || 1_100_000_000 < x.1 {
+                return Err((9, 10));
+            }
+        }
+        let llfr = ((series.neg_log)(x.1).low, (series.neg_log)(x.0).high);
+        let smoothing_year = if profile == 2 { 10 } else { 15 };
+        years.extrapolate(sheet, smoothing_year, llfr, series)
     }
 
     fn sums(&self) -> (i128, i128) {
@@ -202,23 +232,24 @@ impl Model {
     fn extrapolate(
         mut self,
         sheet: &Sheet,
+        smoothing_year: usize,
         llfr: (i128, i128),
         series: Series,
     ) -> Result<Model, Ground> {
-        self.lows.truncate(20);
-        self.highs.truncate(20);
+        self.lows.truncate(smoothing_year);
+        self.highs.truncate(smoothing_year);
         let l = (series.neg_log)(U + 10_000 * i128::from(sheet.ufr));
         let l = (-l.high, -l.low);
-        for (i, k) in weights(sheet.convergence()).into_iter().enumerate() {
+        for (year, k) in (smoothing_year + 1..=150).zip(weights(sheet.convergence())) {
             let low = |k| down(l.0 * (U - k) + llfr.0 * k, U);
             let high = |k| up(l.1 * (U - k) + llfr.1 * k, U);
             let f = (low(k.low).min(low(k.high)), high(k.low).max(high(k.high)));
-            let (low, high) = step((self.lows[19 + i], self.highs[19 + i]), f, series);
+            let (low, high) = step((self.lows[year - 2], self.highs[year - 2]), f, series);
+            if high > 2 * U {
+                return Err((8, year as u8));
+            }
             self.lows.push(low);
             self.highs.push(high);
-            if self.highs[20 + i] > 2 * U {
-                return Err((8, 21 + i as u8));
-            }
         }
         let wide = |&i: &usize| self.highs[i] - self.lows[i] > i128::from(sheet.limit);
         match (0..150).find(wide) {
