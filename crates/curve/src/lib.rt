@@ -35,7 +35,7 @@ const LOWER_END: u64 = 800_000_000;
 
 const UPPER_END: u64 = 1_100_000_000;
 
-// The euro's.
+// The euro's smoothing year.
 const LATEST_SMOOTHING: usize = 20;
 
 // The year that profile 2 smooths from, its last quote's.
@@ -178,7 +178,8 @@ fn llfr_of(n: Numbers, g: Forwards) -> SignedPair
 
 // ---- from the quotes to the extrapolation
 
-// The years to the smoothing year, and zeros.
+// The years to the smoothing year, and zeros. The loop is to the latest one: with a loop to the year itself the compiler copies the
+// bootstrap's arrays at every quote, 4% of a post's instructions.
 fn first_years(q: Liquid, year: usize) -> Years
     requires { ⌜ year ≤ 20 ⌝ }
     ensures { λ r. ⌜ (r .lows ≡ firstYears year (q .lows)) × (r .highs ≡ firstYears year (q .highs)) ⌝ }
