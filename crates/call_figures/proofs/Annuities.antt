@@ -12,18 +12,19 @@ use Rattle.method.specs.Grounds.{Outcome, refused, done}
 use Rattle.figures.specs.Figures.{sheetOf}
 use Rattle.zero_rates.specs.Meaning.{grown, AtMost, HighRateExists}
 use Rattle.zero_rates.proofs.Theorem.{exists-by}
+use Rattle.valuation.specs.Meaning.{sumTo}
 use Rattle.ledger.specs.Answers.{sum, Finding, finding}
 use Rattle.ledger.specs.Book.{Book, lookUp}
 use Rattle.ledger.specs.Calls.{postOf, turnTo, withdrawal, run}
 use Rattle.ledger.specs.Count.{Count, monthOf, carries}
-use Rattle.ledger.specs.Tells.{bandOf, shownOf, sumTo, Finds, LookTells}
+use Rattle.ledger.specs.Tells.{bandOf, shownOf, Finds, LookTells}
 use Rattle.call_figures.proofs.Days.{opens, found, steep, low-of, low-rate-of}
 
 -- all rates 3%, the ultimate one too, in month 1; and with an adjustment of 0.1% in month 2
-level : List ℕ
+unfoldable pub level : List ℕ
 level = sheetOf 1 (replicate 17 3_000) (replicate 5 1) 3_000 100_000
 
-raised : List ℕ
+unfoldable pub raised : List ℕ
 raised = sheetOf 2 (replicate 17 3_000) (replicate 5 1) 3_000 100_000 ++ 0x07 ∷ 0 ∷ 100 ∷ []
 
 -- a sum: the ground's number, or 0, low, high, month and age

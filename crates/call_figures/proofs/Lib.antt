@@ -1,3 +1,4 @@
 pub mod Days
 pub mod TakenBack
 pub mod Annuities
+pub mod Blocks

@@ -27,6 +27,9 @@ asGround code.AgeAboveLimit = method.ageAboveLimit
 asGround code.NoHighRate = method.noHighRate
 asGround code.NoPostLeft = method.noPostLeft
 asGround code.UnknownProfile = method.unknownProfile
+asGround code.WrongCount = method.wrongCount
+asGround (code.FlowYearOutside i) = method.flowYearOutside i
+asGround (code.CentsAboveLimit i) = method.centsAboveLimit i
 
 abbrev pub asOutcome : {A : Type 0} → Verdict → A → Outcome A
 asOutcome Passed a = done a

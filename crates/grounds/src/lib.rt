@@ -3,7 +3,7 @@ ghost use mathlib.Core.Path.{_≡_};
 ghost use Rattle.method.specs.Grounds.{numberOf, placeOf};
 ghost use Rattle.grounds.specs.Verdicts.{asGround, verdictNumber, verdictPlace};
 
-// With its place: a record, from 1, or a year.
+// With its place: a record, from 1, a year, or an entry of a list, from 1.
 pub enum Ground {
     WrongLength,
     WrongRecord(u64),
@@ -24,6 +24,9 @@ pub enum Ground {
     NoHighRate,
     NoPostLeft,
     UnknownProfile,
+    WrongCount,
+    FlowYearOutside(u64),
+    CentsAboveLimit(u64),
 }
 
 pub enum Verdict {
@@ -54,6 +57,9 @@ fn ground_number(g: Ground) -> u64
         Ground::NoHighRate => 17,
         Ground::NoPostLeft => 18,
         Ground::UnknownProfile => 19,
+        Ground::WrongCount => 20,
+        Ground::FlowYearOutside(_) => 21,
+        Ground::CentsAboveLimit(_) => 22,
     }
 }
 
@@ -67,6 +73,8 @@ fn ground_place(g: Ground) -> u64
         Ground::HighAboveLimit(year) => year,
         Ground::EndFailsTest(year) => year,
         Ground::BandTooWide(year) => year,
+        Ground::FlowYearOutside(entry) => entry,
+        Ground::CentsAboveLimit(entry) => entry,
         _ => 0,
     }
 }

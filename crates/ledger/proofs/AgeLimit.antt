@@ -10,15 +10,18 @@ use borrow.Author.Tests.{leb-true, le-leb}
 use lib.Dec.{leb}
 use lib.ListN.{length}
 use Rattle.method.specs.Units.{Which, Pair, SignedPair}
-use Rattle.method.specs.Grounds.{yearOutside, bufferTooShort, ageAboveLimit, noHighRate, Outcome, refused, done, _>>=_, demand}
-use Rattle.method.specs.Curve.{Curve, Held, none, some}
+use Rattle.method.specs.Grounds.{Ground, numberOf, yearOutside, bufferTooShort, ageAboveLimit, noHighRate, Outcome, refused, done, _>>=_, demand}
+use Rattle.method.specs.Curve.{Curve, yearInside, Held, none, some}
+use Rattle.method.specs.Enclosure.{lowOf, highOf}
 use Rattle.method.proofs.Outcome.{split, bind-done, demand-done, done-injective, refused-not-done, both-true}
 use Rattle.zero_rates.specs.Rates.{greatestMultiplier, reaches, zeroRates}
-use Rattle.ledger.specs.Answers.{Wanted, factor, sum, Finding, answerNumber}
+use Rattle.valuation.specs.Block.{Flow, valueOn}
+use Rattle.valuation.proofs.Checks.{value-from-20}
+use Rattle.ledger.specs.Answers.{Wanted, factor, sum, Finding, Value, answerNumber}
 use Rattle.ledger.specs.Sums.{Sums}
 use Rattle.ledger.specs.Book.{Book, postOutcome, post, withTold, turnOutcome, turn, withdraw}
-use Rattle.ledger.specs.Book.{named, sumsNamed, young, openCurve, yearInside, bandAt, lookIn, shown, pageOutcome, pagedBy, pageIn}
-use Rattle.ledger.specs.Calls.{Question, lookAt, pageInto, Call, asks, answered, answerOf}
+use Rattle.ledger.specs.Book.{named, sumsNamed, young, openCurve, bandAt, lookIn, shown, pageOutcome, pagedBy, pageIn, valueIn}
+use Rattle.ledger.specs.Calls.{Question, lookAt, pageInto, valueOf, Call, asks, answered, answerOf}
 use Rattle.ledger.specs.Count.{Count, count}
 use Rattle.ledger.specs.Demands.{Closes, TurnCloses, OnlyCloses}
 use Rattle.ledger.proofs.Count.{bookOf}
@@ -125,6 +128,16 @@ module _ (told : ℕ) (m : told ≤ 2_399) where
       go (inl e) = inl (rw e)
       go (inr e) = inr (rw e)
 
+  value-closed-or-same : (s : Held Curve) (limit : ℕ) (fs : List Flow) →
+      (answerNumber (valueIn s told limit fs) ≡ 16) ⊎ (valueIn s told limit fs ≡ valueIn s told 2_399 fs)
+  unfolding valueIn
+  value-closed-or-same s limit fs = go (closed-or-open s limit)
+    where
+      go : (openCurve s told limit ≡ refused ageAboveLimit) ⊎ (openCurve s told limit ≡ openCurve s told 2_399) →
+          (answerNumber (valueIn s told limit fs) ≡ 16) ⊎ (valueIn s told limit fs ≡ valueIn s told 2_399 fs)
+      go (inl e) = inl (rw e)
+      go (inr e) = inr (rw e)
+
   -- 13, 14, 17 or 0
   look-never-closed : (s : Held Curve) (y : ℕ) → answerNumber (lookIn s told 2_399 y) ≡ 16 → ⊥
   unfolding lookIn
@@ -155,6 +168,17 @@ module _ (told : ℕ) (m : told ≤ 2_399) where
       go none long over e = omega (arith, e)
       go (some c) long over e = written long (over c) (rw (largest-opens c) at e)
 
+  -- 14, 20 to 22 or 0
+  value-never-closed : (s : Held Curve) (fs : List Flow) → answerNumber (valueIn s told 2_399 fs) ≡ 16 → ⊥
+  unfolding valueIn
+  value-never-closed none fs e = omega (arith, e)
+  value-never-closed (some c) fs e = by-worth (valueOn c fs) (λ g. value-from-20 (lowOf c) (highOf c) fs g) _ (rw (largest-opens c) at e)
+    where
+      by-worth : (o : Outcome Pair) → ((g : Ground) → o ≡ refused g → 20 ≤ numberOf g) → (found : Pair → Value) →
+          answerNumber (o >>= (λ p. done (found p))) ≡ 16 → ⊥
+      by-worth (refused g) n found e = omega (arith, e, n g refl)
+      by-worth (done x) n found e = omega (arith, e)
+
 -- whatever the limit, a post, a turn and a withdrawal are answered by the told month, the curve and the ways back alone
 same-posts-of : (limit : ℕ) (c : Count) (s : List ℕ) → post (bookOf limit c) s .answer ≡ post (bookOf 2_399 c) s .answer
 unfolding post postOutcome
@@ -181,12 +205,14 @@ question-closed-or-same : (limit : ℕ) (c : Count) → c .told ≤ 2_399 → (q
 question-closed-or-same limit c m (lookAt w v y) =
     shown-closed-or-same (c .told) m (named w (bookOf limit c .standing)) (sumsNamed w (bookOf limit c .standing)) limit v y
 question-closed-or-same limit c m (pageInto w l) = page-closed-or-same (c .told) m _ limit l
+question-closed-or-same limit c m (valueOf fs) = value-closed-or-same (c .told) m _ limit fs
 
 question-never-closed : (c : Count) → c .told ≤ 2_399 → (q : Question) → answerOf (bookOf 2_399 c) (asks q) .number ≡ 16 → ⊥
 question-never-closed c m (lookAt w v y) e =
     let k = named w (bookOf 2_399 c .standing) in
     look-never-closed (c .told) m k y (sym (shown-number v (sumsNamed w (bookOf 2_399 c .standing)) y (lookIn k (c .told) 2_399 y)) ∙ e)
 question-never-closed c m (pageInto w l) e = page-never-closed (c .told) m _ l e
+question-never-closed c m (valueOf fs) e = value-never-closed (c .told) m _ fs e
 
 pub only-closes : (limit : ℕ) (cs : List Call) → OnlyCloses limit cs
 only-closes limit cs =

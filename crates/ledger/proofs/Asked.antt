@@ -1,4 +1,4 @@
--- What may be shown of a curve; and what a look-up and a page come to by that.
+-- What may be shown of a curve; and what a look-up, a page and a valuation come to by that.
 use mathlib.Core.Path.{_≡_, refl, ap, sym, _∙_}
 use mathlib.Core.Bool.{Bool, true, false}
 use mathlib.Core.List.{List, [], _++_}
@@ -14,10 +14,12 @@ use Rattle.method.specs.Curve.{Curve, Held, none, some}
 use Rattle.method.specs.Enclosure.{lowOf, highOf}
 use Rattle.method.proofs.Outcome.{split}
 use Rattle.zero_rates.specs.Rates.{zeroRates}
-use Rattle.ledger.specs.Answers.{Wanted, factor, sum, Finding, answerNumber, finding}
+use Rattle.valuation.specs.Block.{Flow, valueOn}
+use Rattle.ledger.specs.Answers.{Wanted, factor, sum, Finding, answerNumber, finding, dated}
 use Rattle.ledger.specs.Sums.{Sums}
 use Rattle.ledger.specs.Page.{pageBytes}
 use Rattle.ledger.specs.Book.{Book, Paged, named, age, young, openCurve, bandAt, lookIn, shown, pageOutcome, pagedBy, pageIn, page}
+use Rattle.ledger.specs.Book.{valueIn}
 use Rattle.ledger.specs.Tells.{PageWritten}
 use Rattle.ledger.specs.Demands.{CurveFits}
 use Rattle.ledger.proofs.PageLaws.{page-length, page-read}
@@ -100,6 +102,17 @@ module _ (s : Held Curve) (told limit : ℕ) where
   pub page-closed : (l : List ℕ) {g : Ground} → openCurve s told limit ≡ refused g → pageIn s told limit l ≡ record { buffer = l; answer = refused g }
   unfolding pageOutcome
   page-closed l e = rw e
+
+  -- ---- a valuation
+
+  pub value-open : (fs : List Flow) (c : Curve) → openCurve s told limit ≡ done c →
+      valueIn s told limit fs ≡ (valueOn c fs >>= λ worth. done (dated worth (c .month) (age told c)))
+  unfolding valueIn
+  value-open fs c e = rw e
+
+  pub value-closed : (fs : List Flow) {g : Ground} → openCurve s told limit ≡ refused g → valueIn s told limit fs ≡ refused g
+  unfolding valueIn
+  value-closed fs e = rw e
 
 paged-refused : (l : List ℕ) (o : Outcome (List ℕ)) (g : Ground) → pagedBy l o .answer ≡ refused g → pagedBy l o .buffer ≡ l
 paged-refused l (refused x) g e = refl

@@ -2,7 +2,7 @@
 use mathlib.Core.Path.{_≡_, refl, ap, sym, _∙_}
 use mathlib.Core.Bool.{Bool, true, false, not, _&&_, _||_}
 use mathlib.Core.List.{List, [], _∷_, _++_}
-use Prim.Native.Nat.{ℕ, zero, suc, _*_}
+use Prim.Native.Nat.{ℕ, zero, suc, _+_, _*_}
 use native.Mathlib.Omega.{arith}
 use borrow.Author.Tests.{leb-true, leb-false, le-leb, lt-ltb, le-ltb}
 use lib.Dec.{leb, ltb, eqb, eqb·suc-zero}
@@ -10,24 +10,29 @@ use lib.ListN.{length, drop, getD}
 use lib.IntN.{pos}
 use Rattle.fraction.specs.Rounding.{U}
 use Rattle.method.specs.Grounds.{Ground, unknownProfile, wrongLength, wrongRecord, outOfRange, noVolume, afterToldMonth, beforeStandingCurve, monthAboveLast}
-use Rattle.method.specs.Grounds.{monthBeforeTold, yearOutside, noCurve, bufferTooShort, ageAboveLimit, noHighRate, noPostLeft}
+use Rattle.method.specs.Grounds.{monthBeforeTold, yearOutside, noCurve, bufferTooShort, ageAboveLimit, noHighRate, noPostLeft, wrongCount}
+use Rattle.method.specs.Grounds.{flowYearOutside, centsAboveLimit}
 use Rattle.method.specs.Grounds.{Outcome, refused, done, _>>=_, demand}
 use Rattle.method.specs.Sheet.{Numbers, profileKnown, readSheet, sheetNumbers, layoutOf, sizeOf, slotsOf, firstFailure, rightRecord, inRange, total}
-use Rattle.method.specs.Units.{Which, SignedPair}
+use Rattle.method.specs.Units.{Which, plain, SignedPair}
 use Rattle.method.specs.Curve.{Curve, Held, none, some, Curves, curvesOf}
-use Rattle.method.specs.Enclosure.{lowOf}
-use Rattle.method.proofs.Outcome.{split}
+use Rattle.method.specs.Enclosure.{lowOf, highOf}
+use Rattle.method.proofs.Outcome.{split, bind-assoc}
 use Rattle.method.proofs.Layouts.{any-length}
 use Rattle.zero_rates.specs.Rates.{greatestMultiplier, compound, reaches, ratesOf, zeroRates}
 use Rattle.zero_rates.proofs.Compounding.{grown-is}
-use Rattle.ledger.specs.Answers.{Wanted, factor, sum, Finding, finding}
+use Rattle.valuation.specs.Block.{Flow, flowsChecked, blockChecked, valueBy, valueOn}
+use Rattle.valuation.proofs.Theorem.{worth-is}
+use Rattle.ledger.specs.Answers.{Wanted, factor, sum, Finding, finding, Value, dated}
 use Rattle.ledger.specs.Sums.{Sums}
 use Rattle.ledger.specs.Page.{pageBytes}
 use Rattle.ledger.specs.History.{wayBack}
 use Rattle.ledger.specs.Book.{Standing, Book, Booked, booked, notBefore, postOutcome, withCurves, post, turnOutcome, withTold, turn}
 use Rattle.ledger.specs.Book.{withHistory, withdraw, named, sumsNamed, openCurve, age, bandAt, lookIn, shown, lookUp, pageOutcome, pagedBy, page}
+use Rattle.ledger.specs.Book.{valueIn, value}
 use Rattle.ledger.specs.Demands.{Applies, when, first, standsAfter, vacant, tooOld, beyondReach, shownIn, foundIn, monthIn, Demand1}
 use Rattle.ledger.specs.Demands.{strangeMarket, lengthsOf, among, postGrounds, turnGrounds, withdrawGrounds, lookGrounds, pageGrounds, turnedTo}
+use Rattle.ledger.specs.Demands.{entryGrounds, valueGrounds, valueAt}
 use Rattle.ledger.proofs.Asked.{refusal-kept, shown-refused, page-refused}
 
 -- a demand in its turn is a ground that applies where its test fails
@@ -213,6 +218,61 @@ page-first-is b w l = rw (not-at-most (length l) 1_505) (go (named w (b .standin
     go none long = refl
     go (some c) long = rw (not-at-most (b .ageLimit) (age (b .told) c)) (by-tests c (leb (age (b .told) c) (b .ageLimit)) long)
 
+-- 21 and 22 of the entries, then what comes after
+entries-first : {A : Type 0} (k : ℕ) (fs : List Flow) (o : Outcome A) → (flowsChecked k fs >>= (λ _. o)) ≡ first (entryGrounds k fs) o
+unfolding flowsChecked entryGrounds
+entries-first k [] o = refl
+entries-first k (f ∷ fs) o =
+    rw (no-year (f .year), not-at-most 150 (f .year), not-at-most 1_000_000_000 (f .cents))
+    (go (leb 1 (f .year)) (leb (f .year) 150) (leb (f .cents) 1_000_000_000) (entries-first (k + 1) fs o))
+  where
+    go : (p q c : Bool) → (flowsChecked (k + 1) fs >>= (λ _. o)) ≡ first (entryGrounds (k + 1) fs) o →
+        ((demand (p && q) (flowYearOutside k) >>= (λ _. demand c (centsAboveLimit k) >>= (λ _. flowsChecked (k + 1) fs))) >>= (λ _. o))
+        ≡ first
+        (when (not p) (flowYearOutside k) ∷ when (not q) (flowYearOutside k) ∷ when (not c) (centsAboveLimit k) ∷ entryGrounds (k + 1) fs) o
+    go true true true later = later
+    go true true false later = refl
+    go true false c later = refl
+    go false q c later = refl
+
+-- 20 before them
+abbrev listed : List Flow → List Applies
+listed fs = when (eqb (length fs) 0) wrongCount ∷ when (ltb 1_000 (length fs)) wrongCount ∷ entryGrounds 1 fs
+
+list-first : {A : Type 0} (fs : List Flow) (o : Outcome A) → (blockChecked fs >>= (λ _. o)) ≡ first (listed fs) o
+unfolding blockChecked
+list-first fs o = rw (no-year (length fs), not-at-most 1_000 (length fs)) (go (leb 1 (length fs)) (leb (length fs) 1_000))
+  where
+    go : (p q : Bool) →
+        ((demand (p && q) wrongCount >>= (λ _. flowsChecked 1 fs)) >>= (λ _. o))
+        ≡ first (when (not p) wrongCount ∷ when (not q) wrongCount ∷ entryGrounds 1 fs) o
+    go true true = entries-first 1 fs o
+    go true false = refl
+    go false q = refl
+
+abbrev valuedOn : Book → List Flow → Curve → Outcome Value
+valuedOn b fs c = valueOn c fs >>= (λ worth. done (dated worth (c .month) (age (b .told) c)))
+
+-- 14 and 16 before all of these
+value-first-is : (b : Book) (fs : List Flow) → value b fs ≡ first (valueGrounds b fs) (done (valueAt (b .told) (named plain (b .standing)) fs))
+unfolding valueIn valueBy valueGrounds
+value-first-is b fs = go (named plain (b .standing))
+  where
+    on-curve : (c : Curve) → valuedOn b fs c ≡ first (listed fs) (done (valueAt (b .told) (some c) fs))
+    on-curve c = rw (worth-is (lowOf c) (highOf c) fs) (bind-assoc (blockChecked fs) _ _ ∙ list-first fs _)
+
+    by-test : (c : Curve) (young : Bool) →
+        ((demand young ageAboveLimit >>= (λ _. done c)) >>= valuedOn b fs)
+        ≡ first (when (not young) ageAboveLimit ∷ listed fs) (done (valueAt (b .told) (some c) fs))
+    by-test c true = on-curve c
+    by-test c false = refl
+
+    go : (k : Held Curve) →
+        (openCurve k (b .told) (b .ageLimit) >>= valuedOn b fs)
+        ≡ first (when (vacant k) noCurve ∷ when (tooOld k (b .told) (b .ageLimit)) ageAboveLimit ∷ listed fs) (done (valueAt (b .told) k fs))
+    go none = refl
+    go (some c) = rw (not-at-most (b .ageLimit) (age (b .told) c)) (by-test c (leb (age (b .told) c) (b .ageLimit)))
+
 -- by its two tests
 abbrev turned : Book → ℕ → Bool → Bool → Booked ℕ
 turned b m p q = booked b (withTold b) (λ m. m) (demand p monthAboveLast >>= (λ _. demand q monthBeforeTold >>= (λ _. done m)))
@@ -261,4 +321,5 @@ demand-1 b =
       look-first = look-first-is b;
       page-first = page-first-is b;
       page-refused = page-refused b;
+      value-first = value-first-is b;
     }

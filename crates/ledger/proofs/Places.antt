@@ -1,23 +1,27 @@
--- The place that any call is answered is at most 150, for every book: only a post's grounds name one.
+-- The place that a post is answered is at most 150, and that any call is, at most 1,000, for every book: only the grounds of a post and of a
+-- valuation name one.
+use mathlib.Core.Path.{_≡_, refl}
 use mathlib.Core.List.{List, [], _∷_}
 use Prim.Native.Nat.{ℕ, _≤_}
 use native.Mathlib.Omega.{arith}
 use lib.Dec.{leb}
 use lib.ListN.{length}
-use Rattle.method.specs.Grounds.{Outcome, refused, done}
+use Rattle.method.specs.Grounds.{Ground, placeOf, Outcome, refused, done, _>>=_}
 use Rattle.method.specs.Sheet.{readSheet}
-use Rattle.method.specs.Units.{Which}
-use Rattle.method.specs.Curve.{Curve, Held, none, some}
+use Rattle.method.specs.Units.{Which, plain, Pair}
+use Rattle.method.specs.Curve.{Curve, yearInside, Held, none, some}
 use Rattle.method.proofs.Places.{place, bind-place, demand-place, read-place, curves-place}
-use Rattle.method.specs.Enclosure.{lowOf}
+use Rattle.method.specs.Enclosure.{lowOf, highOf}
 use Rattle.zero_rates.specs.Rates.{greatestMultiplier, reaches, zeroRates}
-use Rattle.ledger.specs.Answers.{Wanted, factor, sum, Finding, answerPlace}
+use Rattle.valuation.specs.Block.{Flow, valueOn}
+use Rattle.valuation.proofs.Checks.{value-place as list-place}
+use Rattle.ledger.specs.Answers.{Wanted, factor, sum, Finding, Value, answerPlace}
 use Rattle.ledger.specs.Sums.{Sums}
 use Rattle.ledger.specs.Page.{pageLength}
 use Rattle.ledger.specs.History.{wayBack}
 use Rattle.ledger.specs.Book.{Book, booked, notBefore, postOutcome, post, lastMonth, turnOutcome, turn, withdraw}
-use Rattle.ledger.specs.Book.{named, young, openCurve, yearInside, bandAt, lookIn, shown, lookUp, pageOutcome, pagedBy, page}
-use Rattle.ledger.specs.Calls.{Call, postOf, turnTo, withdrawal, asks, lookAt, pageInto, answerOf}
+use Rattle.ledger.specs.Book.{named, young, openCurve, bandAt, lookIn, shown, lookUp, pageOutcome, pagedBy, page, valueIn, value}
+use Rattle.ledger.specs.Calls.{Call, postOf, turnTo, withdrawal, asks, lookAt, pageInto, valueOf, answerOf}
 
 -- a refusal is answered as it is, and an accepted call at place 0
 booked-place : {A B : Type 0} {m : ℕ} (b : Book) (changed : A → Book) (said : A → B) (o : Outcome A) →
@@ -84,9 +88,23 @@ page-place b w l =
     (bind-place (openCurve k (b .told) (b .ageLimit)) _ (open-place k (b .told) (b .ageLimit))
     λ c e. demand-place (leb pageLength (length l)) _ _ (omega arith) (omega arith))
 
-pub answer-place : (b : Book) (c : Call) → answerOf b c .place ≤ 150
-answer-place b (postOf s) = post-place b s
+-- a list has at most 1,000 entries
+pub value-place : (b : Book) (fs : List Flow) → answerPlace (value b fs) ≤ 1_000
+unfolding valueIn
+value-place b fs =
+    let k = named plain (b .standing) in
+    bind-place (openCurve k (b .told) (b .ageLimit)) _ (omega (arith, open-place k (b .told) (b .ageLimit)))
+    λ c e. by-worth (valueOn c fs) (λ g. list-place (lowOf c) (highOf c) fs g) _
+  where
+    by-worth : (o : Outcome Pair) → ((g : Ground) → o ≡ refused g → placeOf g ≤ 1_000) → (found : Pair → Value) →
+        answerPlace (o >>= (λ p. done (found p))) ≤ 1_000
+    by-worth (refused g) h found = h g refl
+    by-worth (done p) h found = omega arith
+
+pub answer-place : (b : Book) (c : Call) → answerOf b c .place ≤ 1_000
+answer-place b (postOf s) = omega (arith, post-place b s)
 answer-place b (turnTo m) = omega (arith, turn-place b m)
 answer-place b withdrawal = omega (arith, withdraw-place b)
 answer-place b (asks (lookAt w v y)) = omega (arith, look-place b w v y)
 answer-place b (asks (pageInto w l)) = omega (arith, page-place b w l)
+answer-place b (asks (valueOf fs)) = value-place b fs

@@ -1,22 +1,17 @@
--- The sums that the book holds are those of its curves' years, and between them lie the sums of whatever the bands hold.
+-- The sums that the book holds are those of its curves' years.
 use mathlib.Core.Path.{_≡_, refl, ap, ap₂, _∙_}
 use mathlib.Core.List.{List, [], _∷_, map}
 use Prim.Native.Nat.{ℕ, zero, suc, _+_, _-_, _≤_, _<_}
 use native.Mathlib.Numerals.{add-one}
 use native.Mathlib.Omega.{arith}
-use lib.IntN.{pos}
 use lib.ListN.{length, getD}
-use Rattle.fraction.specs.Fraction.{ℚ, sumℚ}
-use Rattle.fraction.specs.Rounding.{Encloses}
-use Rattle.fraction.proofs.Enclosure.{encloses-exact, encloses-≈, encloses-+}
-use Rattle.fraction.proofs.Integer.{intℚ-pos}
 use Rattle.method.specs.Units.{pair}
 use Rattle.method.specs.Curve.{Curve, Held, none, some}
 use Rattle.method.specs.Enclosure.{lowOf, highOf}
+use Rattle.valuation.specs.Meaning.{sumTo}
 use Rattle.ledger.specs.Sums.{Sums, runningFrom, sumsOf, sumsOfHeld}
 use Rattle.ledger.specs.Book.{sumAt}
 use Rattle.ledger.specs.Count.{offsets}
-use Rattle.ledger.specs.Tells.{sumTo}
 use Rattle.ledger.specs.Demands.{everyYear, sumsIn, sumsInHeld}
 
 -- ---- running sums, by the year: what was there at first is the sum to year i, and the numbers are those of the years after it
@@ -64,11 +59,3 @@ module _ (c : Curve) (lows : length (c .lows) ≡ 150) (highs : length (c .highs
 pub held-sums-are : (k : Held Curve) → ((c : Curve) → k ≡ some c → (length (c .lows) ≡ 150) × (length (c .highs) ≡ 150)) → sumsOfHeld k ≡ sumsInHeld k
 held-sums-are none h = refl
 held-sums-are (some c) h = let years = h c refl in ap some (sums-are c (years .0) (years .1))
-
--- ---- between them
-
-pub sum-encloses : (low high : ℕ → ℕ) (x : ℕ → ℚ) (y : ℕ) → ((t : ℕ) → 1 ≤ t → t ≤ y → Encloses (pos (low t)) (pos (high t)) (x t)) →
-    Encloses (pos (sumTo low y)) (pos (sumTo high y)) (sumℚ (λ i. x (suc i)) y)
-unfolding sumTo sumℚ
-sum-encloses low high x zero h = encloses-≈ (intℚ-pos 0) (encloses-exact (pos 0))
-sum-encloses low high x (suc y) h = encloses-+ (sum-encloses low high x y (λ t a b. h t a (omega arith))) (h (suc y) (omega arith) (omega arith))

@@ -9,8 +9,9 @@ use lib.Dec.{T, leb}
 use lib.IntN.{pos}
 use lib.ListN.{length, getD}
 use Rattle.fraction.specs.Rounding.{Encloses}
-use Rattle.method.specs.Units.{Which, plain, adjusted, pair, SignedPair}
-use Rattle.method.specs.Grounds.{noCurve, bufferTooShort, ageAboveLimit, noHighRate, refused, done, _>>=_}
+use Rattle.method.specs.Units.{Which, plain, adjusted, Pair, pair, SignedPair}
+use Rattle.method.specs.Grounds.{noCurve, bufferTooShort, ageAboveLimit, noHighRate}
+use Rattle.method.specs.Grounds.{Outcome, refused, done, _>>=_}
 use Rattle.method.specs.Curve.{Curve, Held, none, some, Curves, curveNamed, answer}
 use Rattle.method.specs.Enclosure.{CurveHolds, lowOf, highOf}
 use Rattle.method.specs.True.{trueFactor}
@@ -20,20 +21,28 @@ use Rattle.method.proofs.Holding.{none-not-some, some-injective}
 use Rattle.zero_rates.specs.Rates.{greatestMultiplier, reaches, ratesOf, zeroRates}
 use Rattle.zero_rates.specs.Meaning.{HighRateExists}
 use Rattle.zero_rates.proofs.Theorem.{zero-rates, no-rate, rates-ordered, rates-between}
-use Rattle.ledger.specs.Answers.{Wanted, factor, sum, finding}
+use Rattle.valuation.specs.Block.{Flow, valueOn}
+use Rattle.valuation.specs.Meaning.{BlockTells}
+use Rattle.valuation.proofs.Checks.{value-from-20}
+use Rattle.valuation.proofs.Sums.{sum-encloses}
+use Rattle.valuation.proofs.Theorem.{block-tells}
+use Rattle.ledger.specs.Answers.{Wanted, factor, sum, finding, dated}
 use Rattle.ledger.specs.Sums.{Sums, sumsOf, sumsOfHeld, summed}
 use Rattle.ledger.specs.History.{History}
 use Rattle.ledger.specs.Book.{Book, Paged, standingOf, named, sumsNamed, age, openCurve, bandAt, lookIn, sumAt, shown, lookUp, page}
-use Rattle.ledger.specs.Calls.{lookAt, pageInto, Call, run}
+use Rattle.ledger.specs.Book.{value}
+use Rattle.ledger.specs.Calls.{lookAt, pageInto, valueOf, Call, run}
 use Rattle.ledger.specs.Count.{Count, latest, monthOf, carries, typed, counted, countFrom, nothing, count}
 use Rattle.ledger.specs.Tells.{missing, Carries, bandAmong, bandIn, bandOf, Band, shownOf, trueOf, Finds, LookTells, PageWritten, PageTells}
+use Rattle.ledger.specs.Tells.{datedAt, Shows, ValueTells}
 use Rattle.ledger.specs.Demands.{Demand3, sumsInHeld, SumsKept, seenFrom, CountIsLast, withSums, CurveFits, FitsPage}
 use Rattle.ledger.proofs.Ways.{historyOf}
 use Rattle.ledger.proofs.Count.{bookOf, Sound, AllSound, SoundCount, sound, all-sound, works-done, answer-typed}
 use Rattle.ledger.proofs.Count.{curve-month, worked-sums, curve-there, curve-missing, moves, steps}
-use Rattle.ledger.proofs.Sums.{sum-is, sum-encloses}
+use Rattle.ledger.proofs.Sums.{sum-is}
 use Rattle.ledger.proofs.Asked.{refusal-kept, other-ground, shown-refused, was-refused, open-within, closed-old, closed-none, look-outside}
 use Rattle.ledger.proofs.Asked.{look-open, look-closed, page-short, page-closed, page-refused, page-of-book}
+use Rattle.ledger.proofs.Asked.{value-open, value-closed}
 
 -- ---- what the sheet that stands is worked to
 
@@ -201,6 +210,56 @@ module _ (told : ℕ) (s : List ℕ) (g : Sound told s) where
           (λ r. other-ground (short-of (leb-true _ _ q) l (leb-false _ _ r)) e (λ n. omega (arith, n))))
           (λ q. other-ground (page-old (leb-false _ _ q) l) e (λ n. omega (arith, n)))
 
+-- ---- a valuation of the book with this sheet's curves
+
+module _ (told : ℕ) (s : List ℕ) (g : Sound told s) (limit : ℕ) (ht : told ≤ 2_399) (history : History) (fs : List Flow) where
+  abbrev stood : Book
+  stood = held told s g plain refl limit ht history
+
+  abbrev its : Curve
+  its = curve told s g plain refl
+
+  worth-tells : BlockTells (λ y. bandOf plain s y .low) (λ y. bandOf plain s y .high) fs (valueOn its fs)
+  worth-tells =
+      subst (λ (o : Outcome Curves). BlockTells (λ y. bandIn plain o y .low) (λ y. bandIn plain o y .high) fs (valueOn its fs)) (sym (worked told s g))
+      (subst (λ (k : Held Curve). BlockTells (λ y. bandAmong k y .low) (λ y. bandAmong k y .high) fs (valueOn its fs))
+      (sym (among told s g plain refl)) (block-tells (lowOf its) (highOf its) fs))
+
+  value-old : limit < told - monthOf s → value stood fs ≡ refused ageAboveLimit
+  value-old older = value-closed _ told _ fs (closed-held told s g plain refl limit ht history older)
+
+  module _ (within : told - monthOf s ≤ limit) where
+    value-is : value stood fs ≡ datedAt (monthOf s) (told - monthOf s) (valueOn its fs)
+    value-is =
+        value-open _ told _ fs its (open-held told s g plain refl limit ht history within) ∙ rw (month-is told s g plain refl) (go (valueOn its fs))
+      where
+        go : (o : Outcome Pair) → (o >>= λ p. done (dated p (monthOf s) (told - monthOf s))) ≡ datedAt (monthOf s) (told - monthOf s) o
+        go (refused x) = refl
+        go (done p) = refl
+
+    shows-of : (c : Count) → c .told ≡ told → Shows c s fs (value stood fs)
+    shows-of c e =
+        record {
+          not-after-told = rw e (g .1);
+          worth = valueOn its fs;
+          worth-tells = worth-tells;
+          found = rw e value-is;
+          holds-true = λ p d n.
+              worth-tells .values-only p d .2 .holds-exact (trueFactor plain n (typed s)) (λ y h k. band-of told s g plain refl y h k .holds-true-factor n);
+          bands = band-of told s g plain refl;
+        }
+
+  -- a book that holds a curve never says that there is none
+  value-never-none : value stood fs ≡ refused noCurve → ⊥
+  value-never-none e =
+      split (leb (told - monthOf s) limit)
+      (λ q. by-worth (valueOn its fs) refl (sym (value-is (leb-true _ _ q)) ∙ e))
+      (λ q. other-ground (value-old (leb-false _ _ q)) e (λ n. omega (arith, n)))
+    where
+      by-worth : (o : Outcome Pair) → valueOn its fs ≡ o → datedAt (monthOf s) (told - monthOf s) o ≡ refused noCurve → ⊥
+      by-worth (refused x) d e = other-ground {a = refused x} refl e (λ n. omega (arith, n, value-from-20 (lowOf its) (highOf its) fs x d))
+      by-worth (done p) d e = refusal-kept {a = done _} refl e
+
 -- ---- demand 3
 
 not-both : (b : Bool) → b ≡ true → not b ≡ true → ⊥
@@ -300,6 +359,26 @@ module _ (limit told : ℕ) (m : told ≤ 2_399) (depth : ℕ) (w : Which) where
       (λ t. page-carried s ss (g .0) t l)
       (λ f. page-missing (s ∷ ss) (not-named told s (g .0) w f) (rw f) (λ u e. other-carries w s u f (e .0) (e .1)) l)
 
+value-tells : (limit told : ℕ) (m : told ≤ 2_399) (depth : ℕ) (fs : List Flow) (ss : List (List ℕ)) → AllSound told ss →
+    ValueTells limit (count-with limit told m depth plain ss) fs (value (book-with limit told m depth plain ss) fs)
+value-tells limit told m depth fs [] g =
+    record {
+      none-found = (λ e. refl, λ e. value-closed none told (min limit 2_399) fs refl);
+      too-old = λ s e o. absurd (none-not-some (e .0));
+      shows = λ s e a. absurd (none-not-some (e .0));
+    }
+value-tells limit told m depth fs (s ∷ ss) g =
+    let history = historyOf (s ∷ ss) depth in
+    let c = count-with limit told m depth plain (s ∷ ss) in
+    record {
+      none-found = (λ e. absurd (value-never-none told s (g .0) limit m history fs e), λ e. absurd (not-both true refl e));
+      too-old = λ t e o. value-old told s (g .0) limit m history fs (rw (some-injective (e .0)) o);
+      shows = λ t e a.
+          let same = some-injective (e .0) in
+          subst (λ x. Shows c x fs (value (book-with limit told m depth plain (s ∷ ss)) fs)) same
+          (shows-of told s (g .0) limit m history fs (rw same a) c refl);
+    }
+
 -- the book that any list of calls leaves is the one that its count stands for
 pub sound-nothing : SoundCount nothing
 sound-nothing = record { month = omega arith; sheets = tt; enough = omega arith; three = omega arith }
@@ -319,6 +398,10 @@ demand-3 limit cs (pageInto w l) =
     let c = count cs in
     let g = run-sound cs in
     rw (run-is limit cs) (page-tells limit (c .told) (g .month) (c .depth) w (c .posts) (g .sheets) l)
+demand-3 limit cs (valueOf fs) =
+    let c = count cs in
+    let g = run-sound cs in
+    rw (run-is limit cs) (value-tells limit (c .told) (g .month) (c .depth) fs (c .posts) (g .sheets))
 
 -- every number of every book that calls can leave fits its bytes on the page
 sheet-fits : (limit told : ℕ) (ss : List (List ℕ)) (depth : ℕ) → told ≤ 2_399 → AllSound told ss →

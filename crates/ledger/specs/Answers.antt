@@ -1,4 +1,4 @@
--- SPECIFICATION 7 and 9: what a look-up finds; and the number and the place of every answer, 0 and 0 where the call was accepted.
+-- SPECIFICATION 7 and 9: what a look-up finds, what a valuation does; and the number and the place of every answer, 0 and 0 where the call was accepted.
 use Prim.Native.Nat.{ℕ}
 use lib.IntN.{ℤ}
 use Rattle.method.specs.Units.{Pair, SignedPair}
@@ -20,6 +20,16 @@ pub record Finding : Type 0 where
 -- a low and a high, the year's zero rates, and the month and the age of the curve
 abbrev pub finding : Pair → SignedPair → ℕ → ℕ → Finding
 finding p r m a = record { low = p .low; high = p .high; month = m; age = a; lowRate = r .low; highRate = r .high }
+
+-- of a block, in cents, with the month and the age of the curve
+pub record Value : Type 0 where
+  pub low : ℕ
+  pub high : ℕ
+  pub month : ℕ
+  pub age : ℕ
+
+abbrev pub dated : Pair → ℕ → ℕ → Value
+dated p m a = record { low = p .low; high = p .high; month = m; age = a }
 
 abbrev pub answerNumber : {A : Type 0} → Outcome A → ℕ
 answerNumber (refused g) = numberOf g

@@ -1,5 +1,5 @@
--- SPECIFICATION 7: the book, and what each call answers and leaves behind, with grounds 1 to 18 in their order.
-use mathlib.Core.Bool.{Bool, true, _&&_}
+-- SPECIFICATION 7: the book, and what each call answers and leaves behind, with grounds 1 to 22 in their order.
+use mathlib.Core.Bool.{Bool, true}
 use mathlib.Core.List.{List, _++_}
 use Prim.Native.Nat.{ℕ, _-_, min}
 use lib.Dec.{leb}
@@ -8,10 +8,11 @@ use Rattle.method.specs.Units.{Which, plain, adjusted, Pair, pair, signedPair}
 use Rattle.method.specs.Grounds.{afterToldMonth, beforeStandingCurve, monthAboveLast, monthBeforeTold, yearOutside, noCurve, bufferTooShort, ageAboveLimit}
 use Rattle.method.specs.Grounds.{Outcome, refused, done, _>>=_, demand}
 use Rattle.method.specs.Sheet.{readSheet}
-use Rattle.method.specs.Curve.{Curve, Held, none, some, Curves, curveNamed, curvesOf, answer}
+use Rattle.method.specs.Curve.{Curve, yearInside, Held, none, some, Curves, curveNamed, curvesOf, answer}
 use Rattle.method.specs.Enclosure.{lowOf, highOf}
 use Rattle.zero_rates.specs.Rates.{zeroRates}
-use Rattle.ledger.specs.Answers.{Wanted, factor, sum, Finding, finding}
+use Rattle.valuation.specs.Block.{Flow, valueOn}
+use Rattle.ledger.specs.Answers.{Wanted, factor, sum, Finding, finding, Value, dated}
 use Rattle.ledger.specs.History.{History, noPosts, withPost, wayBack}
 use Rattle.ledger.specs.Sums.{Sums, Summed, summed}
 use Rattle.ledger.specs.Page.{pageBytes, pageLength}
@@ -133,9 +134,6 @@ openCurve (some c) told limit = do
 
 -- ---- look-up: 13, 14, 16, 17
 
-abbrev pub yearInside : ℕ → Bool
-yearInside y = leb 1 y && leb y 150
-
 abbrev pub bandAt : Curve → ℕ → Pair
 bandAt c y = pair (lowOf c y) (highOf c y)
 
@@ -185,3 +183,14 @@ pageIn k told limit l = pagedBy l (pageOutcome k told limit l)
 
 abbrev pub page : Book → Which → List ℕ → Paged
 page b w l = pageIn (named w (b .standing)) (b .told) (b .ageLimit) l
+
+-- ---- valuation of a block, on the plain curve: 14, 16, then 20 to 22
+
+unfoldable pub valueIn : Held Curve → ℕ → ℕ → List Flow → Outcome Value
+valueIn k told limit fs = do
+  c ← openCurve k told limit
+  worth ← valueOn c fs
+  done (dated worth (c .month) (age told c))
+
+abbrev pub value : Book → List Flow → Outcome Value
+value b fs = valueIn (named plain (b .standing)) (b .told) (b .ageLimit) fs

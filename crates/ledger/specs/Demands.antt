@@ -3,26 +3,30 @@ use mathlib.Core.Path.{_≡_}
 use mathlib.Core.Bool.{Bool, true, false, cond, not, _&&_, _||_}
 use mathlib.Core.List.{List, [], _∷_, _++_, map}
 use mathlib.Core.Logic.{_⊎_, _↔_}
-use Prim.Native.Nat.{ℕ, _+_, _-_, _≤_, _<_, min}
+use Prim.Native.Nat.{ℕ, _+_, _-_, _/_, _≤_, _<_, min}
 use lib.Dec.{ltb, eqb}
 use lib.IntN.{pos, _*ℤ_}
 use lib.ListN.{length, getD, take, drop, replicate}
 use lib.Signed.{ltZ}
-use Rattle.method.specs.Units.{Which, Pair, pair, signedPair}
+use Rattle.fraction.specs.Rounding.{ceilDiv}
+use Rattle.method.specs.Units.{Which, plain, Pair, pair, signedPair}
 use Rattle.method.specs.Grounds.{Ground, unknownProfile, wrongLength, wrongRecord, outOfRange, noVolume, afterToldMonth, beforeStandingCurve}
-use Rattle.method.specs.Grounds.{monthAboveLast, monthBeforeTold, yearOutside, noCurve, bufferTooShort, ageAboveLimit, noHighRate, noPostLeft}
+use Rattle.method.specs.Grounds.{monthAboveLast, monthBeforeTold, yearOutside, noCurve, bufferTooShort, ageAboveLimit, noHighRate, noPostLeft, wrongCount}
+use Rattle.method.specs.Grounds.{flowYearOutside, centsAboveLimit}
 use Rattle.method.specs.Grounds.{Outcome, refused, done}
 use Rattle.method.specs.Sheet.{Numbers, readSheet, sheetNumbers, layoutOf, slotsOf, firstFailure, rightRecord, inRange, total}
 use Rattle.method.specs.Curve.{Curve, Held, none, some, Curves, curvesOf, answer}
 use Rattle.method.specs.Enclosure.{lowOf, highOf}
 use Rattle.zero_rates.specs.Rates.{ratesOf}
 use Rattle.zero_rates.specs.Meaning.{grown}
-use Rattle.ledger.specs.Answers.{Wanted, factor, sum, Finding, finding}
+use Rattle.valuation.specs.Block.{Flow}
+use Rattle.valuation.specs.Meaning.{sumTo, costOf}
+use Rattle.ledger.specs.Answers.{Wanted, factor, sum, Finding, finding, Value, dated}
 use Rattle.ledger.specs.Sums.{Sums, Summed}
-use Rattle.ledger.specs.Book.{Standing, Book, fresh, post, turn, withdraw, named, sumsNamed, lookUp, page}
+use Rattle.ledger.specs.Book.{Standing, Book, fresh, post, turn, withdraw, named, sumsNamed, lookUp, page, value}
 use Rattle.ledger.specs.Calls.{Question, Call, postOf, turnTo, withdrawal, asks, after, runFrom, run, answered, answerOf}
 use Rattle.ledger.specs.Count.{Count, nothing, count, offsets}
-use Rattle.ledger.specs.Tells.{sumTo, PageWritten, Tells}
+use Rattle.ledger.specs.Tells.{PageWritten, Tells}
 
 -- ═══ Demand 3: over EVERY list of calls from a fresh book of ANY age limit, any question is answered as the count of the list tells
 
@@ -211,6 +215,24 @@ pageGrounds b w l =
     ∷ when (ltb (length l) 1_505) bufferTooShort
     ∷ []
 
+-- 21 and 22 of each entry in its turn, with its place
+unfoldable pub entryGrounds : ℕ → List Flow → List Applies
+entryGrounds i [] = []
+entryGrounds i (f ∷ fs) =
+    when (eqb (f .year) 0) (flowYearOutside i)
+    ∷ when (ltb 150 (f .year)) (flowYearOutside i)
+    ∷ when (ltb 1_000_000_000 (f .cents)) (centsAboveLimit i)
+    ∷ entryGrounds (i + 1) fs
+
+unfoldable pub valueGrounds : Book → List Flow → List Applies
+valueGrounds b fs =
+    let k = named plain (b .standing) in
+    when (vacant k) noCurve
+    ∷ when (tooOld k (b .told) (b .ageLimit)) ageAboveLimit
+    ∷ when (eqb (length fs) 0) wrongCount
+    ∷ when (ltb 1_000 (length fs)) wrongCount
+    ∷ entryGrounds 1 fs
+
 -- a year's band; or what the book holds as its sums, whatever that is
 abbrev pub shownIn : Wanted → Curve → Held Sums → ℕ → Pair
 shownIn factor c k y = pair (lowOf c y) (highOf c y)
@@ -221,6 +243,12 @@ shownIn sum c (some k) y = pair (getD (k .lows) (y - 1) 0) (getD (k .highs) (y -
 abbrev pub foundIn : Wanted → ℕ → Held Curve → Held Sums → ℕ → Finding
 foundIn v told none k y = finding (pair 0 0) (signedPair (pos 0) (pos 0)) 0 0
 foundIn v told (some c) k y = finding (shownIn v c k y) (ratesOf y (pair (lowOf c y) (highOf c y))) (c .month) (told - c .month)
+
+-- what a valuation has, where no ground applies
+abbrev pub valueAt : ℕ → Held Curve → List Flow → Value
+valueAt told none fs = dated (pair 0 0) 0 0
+valueAt told (some c) fs =
+    dated (pair (costOf (lowOf c) fs / 1_000_000_000) (ceilDiv (costOf (highOf c) fs) 1_000_000_000)) (c .month) (told - c .month)
 
 abbrev pub monthIn : Outcome Curves → Outcome ℕ
 monthIn (refused g) = refused g
@@ -245,6 +273,7 @@ pub record Demand1 (b : Book) : Type 0 where
       lookUp b w v y ≡ first (lookGrounds b w y) (done (foundIn v (b .told) (named w (b .standing)) (sumsNamed w (b .standing)) y))
   pub page-first : (w : Which) (l : List ℕ) → page b w l .answer ≡ first (pageGrounds b w l) (done tt)
   pub page-refused : (w : Which) (l : List ℕ) (g : Ground) → page b w l .answer ≡ refused g → page b w l .buffer ≡ l
+  pub value-first : (fs : List Flow) → value b fs ≡ first (valueGrounds b fs) (done (valueAt (b .told) (named plain (b .standing)) fs))
 
 -- ═══ Demand 2: a post accepts precisely the sheets, and stores precisely the numbers, that the definitions give; a withdrawal brings
 -- precisely them back; a page carries exactly the book's numbers

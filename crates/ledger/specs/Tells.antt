@@ -3,22 +3,24 @@ use mathlib.Core.Path.{_≡_}
 use mathlib.Core.Bool.{Bool, true, not}
 use mathlib.Core.Logic.{_↔_}
 use mathlib.Core.List.{List}
-use Prim.Native.Nat.{ℕ, zero, suc, _+_, _*_, _-_, _≤_, _<_}
+use Prim.Native.Nat.{ℕ, suc, _+_, _*_, _-_, _≤_, _<_}
 use lib.IntN.{pos}
 use lib.Signed.{_≤ℤ_}
 use lib.ListN.{length, getD, drop}
 use Rattle.fraction.specs.Fraction.{ℚ, sumℚ}
 use Rattle.fraction.specs.Rounding.{Encloses}
-use Rattle.method.specs.Units.{Which, Pair, pair, SignedPair}
+use Rattle.method.specs.Units.{Which, plain, Pair, pair, SignedPair}
 use Rattle.method.specs.Sheet.{Numbers}
 use Rattle.method.specs.Grounds.{Ground, yearOutside, noCurve, bufferTooShort, ageAboveLimit, noHighRate, Outcome, refused, done}
 use Rattle.method.specs.Curve.{Curve, Held, none, some, Curves, curveNamed, answer}
 use Rattle.method.specs.Enclosure.{lowOf, highOf}
 use Rattle.method.specs.True.{trueCurve, trueFactor}
 use Rattle.zero_rates.specs.Meaning.{BandRates, HighRateExists, RateBetween}
-use Rattle.ledger.specs.Answers.{Wanted, factor, sum, Finding}
+use Rattle.valuation.specs.Block.{Flow}
+use Rattle.valuation.specs.Meaning.{sumTo, exactValue, BlockTells}
+use Rattle.ledger.specs.Answers.{Wanted, factor, sum, Finding, Value}
 use Rattle.ledger.specs.Book.{Paged}
-use Rattle.ledger.specs.Calls.{Question, lookAt, pageInto, AnswerTo}
+use Rattle.ledger.specs.Calls.{Question, lookAt, pageInto, valueOf, AnswerTo}
 use Rattle.ledger.specs.Count.{Count, lastSheet, monthOf, limitOf, carries, typed}
 
 -- ---- the curve that is named
@@ -54,11 +56,6 @@ pub record Band (w : Which) (s : List ℕ) (y : ℕ) (p : Pair) : Type 0 where
   pub holds-true-factor : (n : ℕ) → Encloses (pos (p .low)) (pos (p .high)) (trueFactor w n (typed s) y)
 
 -- ---- what a look-up asks for
-
--- f 1 + .. + f t
-unfoldable pub sumTo : (ℕ → ℕ) → ℕ → ℕ
-sumTo f zero = 0
-sumTo f (suc t) = sumTo f t + f (suc t)
 
 -- the year's band; or the lows of years 1 to y added, and the highs
 abbrev pub shownOf : Wanted → Which → List ℕ → ℕ → Pair
@@ -148,8 +145,32 @@ pub record PageTells (limit : ℕ) (c : Count) (w : Which) (l : List ℕ) (p : P
   -- every year's, whether it has a high rate or not
   pub bands : (s : List ℕ) → Carries c w s → c .told - monthOf s ≤ limit → (y : ℕ) → 1 ≤ y → y ≤ 150 → Band w s y (bandOf w s y)
 
+-- ---- a valuation, on the plain curve
+
+-- what is refused stays refused; a value gets the month and the age
+abbrev pub datedAt : ℕ → ℕ → Outcome Pair → Outcome Value
+datedAt month age (refused g) = refused g
+datedAt month age (done p) = done (record { low = p .low; high = p .high; month = month; age = age })
+
+pub record Shows (c : Count) (s : List ℕ) (fs : List Flow) (a : Outcome Value) : Type 0 where
+  pub not-after-told : monthOf s ≤ c .told
+  -- by the sums of the bands' lows and of their highs, each rounded once, or the first of 20 to 22
+  pub worth : Outcome Pair
+  pub worth-tells : BlockTells (λ y. bandOf plain s y .low) (λ y. bandOf plain s y .high) fs worth
+  pub found : a ≡ datedAt (monthOf s) (c .told - monthOf s) worth
+  -- the true curve's own of every order between its ends
+  pub holds-true : (p : Pair) → worth ≡ done p → (n : ℕ) → Encloses (pos (p .low)) (pos (p .high)) (exactValue (trueFactor plain n (typed s)) fs)
+  pub bands : (y : ℕ) → 1 ≤ y → y ≤ 150 → Band plain s y (bandOf plain s y)
+
+pub record ValueTells (limit : ℕ) (c : Count) (fs : List Flow) (a : Outcome Value) : Type 0 where
+  -- whatever the list
+  pub none-found : (a ≡ refused noCurve) ↔ (missing plain (lastSheet c) ≡ true)
+  pub too-old : (s : List ℕ) → Carries c plain s → limit < c .told - monthOf s → a ≡ refused ageAboveLimit
+  pub shows : (s : List ℕ) → Carries c plain s → c .told - monthOf s ≤ limit → Shows c s fs a
+
 -- ---- any question
 
 abbrev pub Tells : ℕ → Count → (q : Question) → AnswerTo q → Type 0
 Tells limit c (lookAt w v y) a = LookTells limit c w v y a
 Tells limit c (pageInto w l) p = PageTells limit c w l p
+Tells limit c (valueOf fs) a = ValueTells limit c fs a

@@ -1,4 +1,4 @@
--- The place of every refusal is at most 150: a record of 28, a quoted year of 50, or a year of 150.
+-- The place of every refusal of a sheet is at most 150: a record of 28, a quoted year of 50, or a year of 150.
 use mathlib.Core.Path.{_≡_, refl}
 use mathlib.Core.Bool.{Bool, true, false, cond, _&&_}
 use mathlib.Core.List.{List, [], _∷_, _++_}
@@ -13,7 +13,7 @@ use Rattle.method.specs.Units.{Pair, SignedPair}
 use Rattle.method.specs.Grounds.{Ground, numberOf, placeOf, Outcome, refused, done, _>>=_, demand}
 use Rattle.method.specs.Grounds.{unknownProfile, wrongLength, wrongRecord, outOfRange, noVolume, afterToldMonth, beforeStandingCurve, lowBelowOne}
 use Rattle.method.specs.Grounds.{highAboveLimit, endFailsTest, bandTooWide, monthAboveLast, monthBeforeTold}
-use Rattle.method.specs.Grounds.{yearOutside, noCurve, bufferTooShort, ageAboveLimit, noHighRate, noPostLeft}
+use Rattle.method.specs.Grounds.{yearOutside, noCurve, bufferTooShort, ageAboveLimit, noHighRate, noPostLeft, wrongCount, flowYearOutside, centsAboveLimit}
 use Rattle.method.specs.Sheet.{profileKnown, layoutOf, sizeOf, Slot, slotsOf, firstFailure, rightRecord}
 use Rattle.method.specs.Sheet.{inRange, total, Numbers, sheetNumbers, readSheet, Profile, euro, fromTen, fromFifteen, quotedMaturities, smoothingYear}
 use Rattle.method.specs.Quotes.{lowerEnd, upperEnd, annuity, parLow, parHigh, trial, highestFactor}
@@ -244,3 +244,6 @@ number-small ageAboveLimit = omega arith
 number-small noHighRate = omega arith
 number-small noPostLeft = omega arith
 number-small unknownProfile = omega arith
+number-small wrongCount = omega arith
+number-small (flowYearOutside i) = omega arith
+number-small (centsAboveLimit i) = omega arith

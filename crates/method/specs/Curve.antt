@@ -19,6 +19,10 @@ pub record Curve : Type 0 where
   pub lows : List ℕ
   pub highs : List ℕ
 
+-- the years that a curve has
+abbrev pub yearInside : ℕ → Bool
+yearInside y = leb 1 y && leb y 150
+
 -- what may be there, or not
 pub data Held (A : Type 0) : Type 0 where
   none : Held A

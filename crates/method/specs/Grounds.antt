@@ -22,6 +22,9 @@ pub data Ground : Type 0 where
   noHighRate : Ground
   noPostLeft : Ground
   unknownProfile : Ground
+  wrongCount : Ground
+  flowYearOutside : ℕ → Ground
+  centsAboveLimit : ℕ → Ground
 
 abbrev pub numberOf : Ground → ℕ
 numberOf wrongLength = 1
@@ -43,8 +46,11 @@ numberOf ageAboveLimit = 16
 numberOf noHighRate = 17
 numberOf noPostLeft = 18
 numberOf unknownProfile = 19
+numberOf wrongCount = 20
+numberOf (flowYearOutside i) = 21
+numberOf (centsAboveLimit i) = 22
 
--- a record from 1, a year, or 0 where none is named
+-- a record from 1, a year, an entry of a list from 1, or 0 where none is named
 abbrev pub placeOf : Ground → ℕ
 placeOf wrongLength = 0
 placeOf (wrongRecord i) = i
@@ -65,6 +71,9 @@ placeOf ageAboveLimit = 0
 placeOf noHighRate = 0
 placeOf noPostLeft = 0
 placeOf unknownProfile = 0
+placeOf wrongCount = 0
+placeOf (flowYearOutside i) = i
+placeOf (centsAboveLimit i) = i
 
 -- ---- a result, or the first ground that applies
 

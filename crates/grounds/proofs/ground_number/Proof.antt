@@ -67,6 +67,15 @@ enum-told-18 c = search needs
 enum-told-19 : tie.Need-enum-told-19
 enum-told-19 c = search needs
 
+enum-told-20 : tie.Need-enum-told-20
+enum-told-20 c = search needs
+
+enum-told-21 : tie.Need-enum-told-21
+enum-told-21 c = search needs
+
+enum-told-22 : tie.Need-enum-told-22
+enum-told-22 c = search needs
+
 returns : tie.Need-returns
 returns c = numbered (c .enum-told .given .1)
 
@@ -124,6 +133,15 @@ returns-18 c = numbered (c .enum-told18 .given .1)
 returns-19 : tie.Need-returns-19
 returns-19 c = numbered (c .enum-told19 .given .1)
 
+returns-20 : tie.Need-returns-20
+returns-20 c = numbered (c .enum-told20 .given .1)
+
+returns-21 : tie.Need-returns-21
+returns-21 c = numbered (c .enum-told21 .given .1)
+
+returns-22 : tie.Need-returns-22
+returns-22 c = numbered (c .enum-told22 .given .1)
+
 pub ground-number-spec : {M : Type 1} → statement M
 ground-number-spec =
     tie.close
@@ -147,6 +165,9 @@ ground-number-spec =
     enum-told-17
     enum-told-18
     enum-told-19
+    enum-told-20
+    enum-told-21
+    enum-told-22
     returns
     returns-2
     returns-3
@@ -165,4 +186,7 @@ ground-number-spec =
     returns-16
     returns-17
     returns-18
-    returns-19)
+    returns-19
+    returns-20
+    returns-21
+    returns-22)

@@ -1,0 +1,3 @@
+pub mod Checks
+pub mod Sums
+pub mod Theorem
