@@ -12,7 +12,7 @@ use Rattle.method.specs.Grounds.{Ground, afterToldMonth, beforeStandingCurve, m
 use Rattle.method.specs.Grounds.{Outcome, refused, done, _>>=_, demand}
 use Rattle.method.specs.Sheet.{Numbers, readSheet, layoutOf}
 use Rattle.method.specs.Units.{plain, adjusted}
-use Rattle.method.specs.Curve.{Curves, Held, none, some, curvesOf, answerWith, answer}
+use Rattle.method.specs.Curve.{yearInside, Curves, Held, none, some, curvesOf, answerWith, answer}
 use Rattle.method.proofs.Reading.{read-passes}
 use Rattle.method.proofs.Slots.{size-least, size-most}
 use Rattle.method.proofs.Layouts.{any-length}
@@ -21,7 +21,7 @@ use Rattle.ledger.specs.Book as ledger
 use Rattle.ledger.specs.Answers.{Wanted}
 use Rattle.ledger.specs.Sums.{Sums, summed as summedOf}
 use Rattle.ledger.specs.Book.{Booked, booked, named, sumsNamed, notBefore, postOutcome, post, turnOutcome, withTold, turn, ifWorked, standingOf}
-use Rattle.ledger.specs.Book.{withHistory, withdraw, openCurve, yearInside, lookIn, shown, lookUp}
+use Rattle.ledger.specs.Book.{withHistory, withdraw, openCurve, lookIn, shown, lookUp}
 use Rattle.ledger.proofs.Ways.{take-both}
 use Rattle.ledger.proofs.Asked.{shown-refused}
 use Rattle.grounds.specs.declared.Ground as grounds

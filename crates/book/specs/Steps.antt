@@ -1,4 +1,4 @@
--- The parts of a post, a look-up and a page that the functions between cite.
+-- The parts of a post, a look-up, a page and a valuation that the functions cite.
 use mathlib.Core.Bool.{Bool}
 use mathlib.Core.List.{List}
 use mathlib.Core.Path.{_≡_}
@@ -9,14 +9,19 @@ use Rattle.method.specs.Grounds.{afterToldMonth, beforeStandingCurve, Outcome, 
 use Rattle.method.specs.Sheet.{Numbers}
 use Rattle.method.specs.Curve.{Curve, Curves, curvesOf}
 use Rattle.zero_rates.specs.Rates.{zeroRates}
-use Rattle.ledger.specs.Answers.{Finding, finding}
+use Rattle.valuation.specs.Block.{Flow}
+use Rattle.ledger.specs.Answers.{Finding, finding, Value}
 use Rattle.ledger.specs.Sums.{Sums}
-use Rattle.ledger.specs.Book.{Book, Booked, booked, notBefore, withCurves, age, openCurve, bandAt, Paged, pageIn}
+use Rattle.ledger.specs.Book.{Book, Booked, booked, notBefore, withCurves, age, openCurve, bandAt, Paged, pageIn, valueIn, value}
 use Rattle.grounds.specs.declared.Verdict.{Verdict}
-use Rattle.grounds.specs.Verdicts.{asOutcome}
+use Rattle.grounds.specs.Verdicts.{asOutcome, resultOr}
 use Rattle.history.specs.Views.{longest}
 use Rattle.curve.specs.declared.Curve as code
 use Rattle.curve.specs.Curves.{asCurve, asHeld}
+use Rattle.block.specs.declared.Block.{Block}
+use Rattle.block.specs.Views.{blockOf, asBlock}
+use Rattle.book.specs.declared.Valued.{Valued}
+use Rattle.book.specs.Views.{asValue, asValued, noValue}
 
 -- what a book makes of the numbers of a sheet that was read: 5 and 6, then 7 to 10
 abbrev pub afterReading : Book → Numbers → Outcome Curves
@@ -50,3 +55,17 @@ sumsBy lows highs = record { lows = lows; highs = highs }
 abbrev pub Pages : Bool → ℕ → List ℕ → List ℕ → ℕ → ℕ → List ℕ → Paged → Type 0
 Pages has month lows highs told limit lent p = (c : code.Curve) →
     c .month ≡ month → c .years .lows ≡ lows → c .years .highs ≡ highs → p ≡ pageIn (asHeld has c) told limit lent
+
+-- a valuation is answered so, and nothing stands beside a refusal
+abbrev pub ValuedBy : Outcome Value → Valued → Type 0
+ValuedBy o r = (asValued r ≡ o) × (asValue (r .value) ≡ resultOr noValue o)
+
+abbrev pub ValuedAs : Book → List Flow → Valued → Type 0
+ValuedAs b fs r = ValuedBy (value b fs) r
+
+-- whatever the list is of which it is the block: of a curve or none, and of a book
+abbrev pub ValuesIn : Bool → code.Curve → ℕ → ℕ → Block → Valued → Type 0
+ValuesIn has c told limit block r = (fs : List Flow) → asBlock block ≡ blockOf fs → ValuedBy (valueIn (asHeld has c) told limit fs) r
+
+abbrev pub ValuesBlock : Book → Block → Valued → Type 0
+ValuesBlock b block r = (fs : List Flow) → asBlock block ≡ blockOf fs → ValuedAs b fs r

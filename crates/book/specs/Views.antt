@@ -8,7 +8,7 @@ use Rattle.method.specs.Units.{pair, signedPair}
 use Rattle.method.specs.Grounds.{Outcome}
 use Rattle.method.specs.Curve.{none, some}
 use Rattle.ledger.specs.Answers as answer
-use Rattle.ledger.specs.Answers.{finding}
+use Rattle.ledger.specs.Answers.{finding, dated}
 use Rattle.ledger.specs.Book as ledger
 use Rattle.grounds.specs.declared.Verdict.{Verdict}
 use Rattle.grounds.specs.Verdicts.{asOutcome}
@@ -25,6 +25,8 @@ use Rattle.book.specs.declared.Booked.{Booked}
 use Rattle.book.specs.declared.Withdrawn.{Withdrawn}
 use Rattle.book.specs.declared.Finding.{Finding}
 use Rattle.book.specs.declared.Looked.{Looked}
+use Rattle.book.specs.declared.Value.{Value}
+use Rattle.book.specs.declared.Valued.{Valued}
 
 abbrev pub asWanted : Wanted → answer.Wanted
 asWanted wanted.Factor = answer.Wanted.factor
@@ -64,3 +66,12 @@ noFinding = finding (pair 0 0) (signedPair (pos 0) (pos 0)) 0 0
 -- the verdict with the buffer at exit
 abbrev pub asPaged : Verdict → List ℕ → ledger.Paged
 asPaged v l = record { buffer = l; answer = asOutcome v tt }
+
+abbrev pub asValue : Value → answer.Value
+asValue v = dated (pair (v .low) (v .high)) (v .month) (v .age)
+
+abbrev pub asValued : Valued → Outcome answer.Value
+asValued r = asOutcome (r .verdict) (asValue (r .value))
+
+abbrev pub noValue : answer.Value
+noValue = dated (pair 0 0) 0 0

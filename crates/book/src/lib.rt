@@ -1,5 +1,7 @@
 // The dated curve book: its age limit, the told month, the curves that stand with their sums, and the sheets that withdrawals bring back. No other crate
 // can build a book or read one, so each came from a list of calls that began with `fresh`.
+use block::Block;
+use block::Flow;
 use curve::Curve;
 use curve::Curves;
 use grounds::Ground;
@@ -17,13 +19,15 @@ ghost use Rattle.method.specs.Ranges.{NumbersInRange};
 ghost use Rattle.method.specs.Curve.{none, some, answer};
 ghost use Rattle.ledger.specs.Sums.{summed};
 ghost use Rattle.ledger.specs.Book.{fresh, withTold, post, turn, ifWorked, standingOf, withHistory, withdraw, lookIn, shown, lookUp, page};
+ghost use Rattle.block.specs.Views.{asFlows, paired, OfList};
 ghost use Rattle.page_writer.specs.Written.{Bands};
 ghost use Rattle.grounds.specs.Verdicts.{resultOr};
 ghost use Rattle.sheet.specs.Views.{asNumbers};
 ghost use Rattle.curve.specs.Curves.{asCurve, asHeld, asCurves};
 ghost use Rattle.history.specs.Views.{asKept, asHistory};
 ghost use Rattle.book.specs.Views.{asWhich, asWanted, asStanding, asBook, asBooked, asWithdrawn, asFinding, asLooked, noFinding, asPaged};
-ghost use Rattle.book.specs.Steps.{Fits, posted, afterReading, Opens, foundAt, sumsBy, Pages};
+ghost use Rattle.book.specs.Views.{asValue, asValued, noValue};
+ghost use Rattle.book.specs.Steps.{Fits, posted, afterReading, Opens, foundAt, sumsBy, Pages, ValuesIn, ValuedAs, ValuesBlock};
 
 // No curve can be older, as no month after 2,399 can be told.
 pub const LARGEST_AGE_LIMIT: u64 = 2_399;
@@ -79,6 +83,20 @@ pub struct Finding {
 pub struct Looked {
     pub verdict: Verdict,
     pub finding: Finding,
+}
+
+// Of a block, in cents, with the month and the age of the curve.
+pub struct Value {
+    pub low: u64,
+    pub high: u64,
+    pub month: u64,
+    pub age: u64,
+}
+
+// The value is all zero where the valuation is refused.
+pub struct Valued {
+    pub verdict: Verdict,
+    pub value: Value,
 }
 
 fn nothing_stands() -> Standing
@@ -493,4 +511,71 @@ pub fn page(book: Book, which: Which, out: &mut [u8]) -> Verdict
             out,
         ),
     }
+}
+
+// ---- valuation
+
+fn not_valued(verdict: Verdict) -> Valued
+    ensures verdict { λ r. ⌜ r .verdict ≡ verdict ⌝ }
+    ensures beside { λ r. ⌜ asValue (r .value) ≡ noValue ⌝ }
+{
+    Valued {
+        verdict: verdict,
+        value: Value {
+            low: 0,
+            high: 0,
+            month: 0,
+            age: 0,
+        },
+    }
+}
+
+// Of any curve, or none: 14 and 16 before the grounds of the block's list.
+fn value_in(has: bool, curve: Curve, told: u64, age_limit: u64, block: Block) -> Valued
+    requires { ⌜ OfList block ⌝ }
+    ensures { λ r. ⌜ ValuesIn has curve told «age_limit» block r ⌝ }
+{
+    let month = curve.month;
+    let verdict = opens(has, month, told, age_limit);
+    let Verdict::Passed = verdict else {
+        return not_valued(verdict);
+    };
+    let worth = block::value_on(block, &curve.years.lows, &curve.years.highs);
+    let verdict = worth.verdict;
+    let Verdict::Passed = verdict else {
+        return not_valued(verdict);
+    };
+    Valued {
+        verdict: Verdict::Passed,
+        value: Value {
+            low: worth.low,
+            high: worth.high,
+            month: month,
+            age: age(told, month),
+        },
+    }
+}
+
+// On the plain curve.
+fn value_block(book: Book, block: Block) -> Valued
+    requires { ⌜ OfList block ⌝ }
+    ensures { λ r. ⌜ ValuesBlock (asBook book) block r ⌝ }
+{
+    let plain = book.standing.summed.curves.plain;
+    value_in(book.standing.has, plain, book.told, book.age_limit, block)
+}
+
+// Its list, a slice of structs, is walked by hand.
+pub fn value_of(book: Book, flows: &[Flow]) -> Valued
+    ensures { λ r. ⌜ ValuedAs (asBook book) (asFlows (now (flows .entry))) r ⌝ }
+{
+    let block = block::block_of(flows);
+    value_block(book, block)
+}
+
+// The same list as plain numbers, year and cents in turn.
+pub fn value_of_numbers(book: Book, numbers: &[u64]) -> Valued
+    ensures { λ r. ⌜ ValuedAs (asBook book) (paired (now (numbers .entry))) r ⌝ }
+{
+    value_block(book, block::block_of_numbers(numbers))
 }

@@ -4,7 +4,7 @@ use mathlib.Core.List.{List, [], _∷_}
 use mathlib.Core.Path.{_≡_, refl, ap, sym, _∙_}
 use Prim.Native.Nat.{ℕ}
 use Rattle.ledger.specs.Book.{Book}
-use Rattle.ledger.specs.Calls.{lookAt, pageInto, Call, postOf, turnTo, withdrawal, asks}
+use Rattle.ledger.specs.Calls.{lookAt, pageInto, valueOf, Call, postOf, turnTo, withdrawal, asks}
 use Rattle.grounds.specs.declared.Ground.{Ground}
 use Rattle.grounds.specs.declared.Verdict.{Verdict}
 use Rattle.grounds.specs.declared.Verdict.the-variants.{Passed, Refused}
@@ -75,6 +75,7 @@ strange-front b (whole (turnTo m) n) h = refl
 strange-front b (whole withdrawal n) h = absurd (h withdrawal n refl)
 strange-front b (whole (asks (lookAt w v y)) n) h = refl
 strange-front b (whole (asks (pageInto w l)) n) h = absurd (h (asks (pageInto w l)) n refl)
+strange-front b (whole (asks (valueOf fs)) n) h = absurd (h (asks (valueOf fs)) n refl)
 strange-front b cut h = refl
 strange-front b unknown h = refl
 

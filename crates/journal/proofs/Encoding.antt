@@ -9,7 +9,7 @@ use lib.Seq.{take-at, drop-append-seam}
 use borrow.Author.Tests.{le-leb}
 use Rattle.method.specs.Units.{plain, adjusted}
 use Rattle.ledger.specs.Answers.{factor, sum}
-use Rattle.ledger.specs.Calls.{Call, postOf, turnTo, withdrawal, lookAt, pageInto, asks}
+use Rattle.ledger.specs.Calls.{Call, postOf, turnTo, withdrawal, lookAt, pageInto, valueOf, asks}
 use Rattle.ledger.proofs.PageLaws.{two-bytes}
 use Rattle.journal.specs.Journal.{whole, recordOf, deskFront, front, decodeFrom, decode, encoded, encode, AreBytes, Fits, AllFit}
 use Rattle.journal.proofs.Decoding.{front-end}
@@ -27,6 +27,7 @@ some-bytes (asks (lookAt plain factor y)) h = omega arith
 some-bytes (asks (lookAt plain sum y)) h = absurd h
 some-bytes (asks (lookAt adjusted v y)) h = absurd h
 some-bytes (asks (pageInto w l)) h = absurd h
+some-bytes (asks (valueOf fs)) h = absurd h
 
 reads-back : (c : Call) (rest : List ℕ) → Fits c → front (encoded c ++ rest) ≡ whole c (length (encoded c))
 unfolding encoded front deskFront
@@ -42,6 +43,7 @@ reads-back (asks (lookAt plain factor y)) rest h =
 reads-back (asks (lookAt plain sum y)) rest h = absurd h
 reads-back (asks (lookAt adjusted v y)) rest h = absurd h
 reads-back (asks (pageInto w l)) rest h = absurd h
+reads-back (asks (valueOf fs)) rest h = absurd h
 
 reads-all : (most : ℕ) (cs : List Call) → AllFit cs → length (encode cs) ≤ most → decodeFrom most (encode cs) ≡ cs
 unfolding decodeFrom
@@ -70,6 +72,7 @@ encoded-bytes (asks (lookAt plain factor y)) h = (omega arith, (h, tt))
 encoded-bytes (asks (lookAt plain sum y)) h = absurd h
 encoded-bytes (asks (lookAt adjusted v y)) h = absurd h
 encoded-bytes (asks (pageInto w l)) h = absurd h
+encoded-bytes (asks (valueOf fs)) h = absurd h
 
 pub encode-bytes : (cs : List Call) → AllFit cs → AreBytes (encode cs)
 encode-bytes [] f = tt

@@ -7,7 +7,7 @@ use lib.ListN.{length, getD, take, drop}
 use Rattle.method.specs.Units.{plain, adjusted}
 use Rattle.method.specs.Bytes.{bytes2}
 use Rattle.ledger.specs.Answers.{factor, sum}
-use Rattle.ledger.specs.Calls.{lookAt, pageInto, Call, postOf, turnTo, withdrawal, asks}
+use Rattle.ledger.specs.Calls.{lookAt, pageInto, valueOf, Call, postOf, turnTo, withdrawal, asks}
 use Rattle.ledger.specs.Tells.{read2}
 
 -- what stands at the front of the bytes: the call of a whole record of so many bytes; a record that is cut, or no byte at all;
@@ -85,6 +85,7 @@ encoded (asks (lookAt plain factor y)) = 0x4C ∷ y ∷ []
 encoded (asks (lookAt plain sum y)) = []
 encoded (asks (lookAt adjusted v y)) = []
 encoded (asks (pageInto w l)) = []
+encoded (asks (valueOf fs)) = []
 
 abbrev pub encode : List Call → List ℕ
 encode [] = []
@@ -104,6 +105,7 @@ Fits (asks (lookAt plain factor y)) = y < 256
 Fits (asks (lookAt plain sum y)) = ⊥
 Fits (asks (lookAt adjusted v y)) = ⊥
 Fits (asks (pageInto w l)) = ⊥
+Fits (asks (valueOf fs)) = ⊥
 
 abbrev pub AllFit : List Call → Type 0
 AllFit [] = Unit {0}

@@ -3,7 +3,7 @@ use Prim.Native.Nat.{ℕ}
 use Rattle.method.specs.Grounds.{Outcome}
 use Rattle.ledger.specs.Answers.{Finding}
 use Rattle.ledger.specs.Book.{Book, post, turn, withdraw, lookUp}
-use Rattle.ledger.specs.Calls.{lookAt, pageInto, postOf, turnTo, withdrawal, asks, after}
+use Rattle.ledger.specs.Calls.{lookAt, pageInto, valueOf, postOf, turnTo, withdrawal, asks, after}
 use Rattle.journal.specs.Journal.{Front, whole, cut, unknown}
 
 -- a look-up with its year; or why there is no call
@@ -22,6 +22,7 @@ replyTo b (whole (turnTo m) n) = turned (turn b m .answer)
 replyTo b (whole withdrawal n) = withdrawn (withdraw b .answer)
 replyTo b (whole (asks (lookAt w v y)) n) = looked y (lookUp b w v y)
 replyTo b (whole (asks (pageInto w l)) n) = notKnown
+replyTo b (whole (asks (valueOf fs)) n) = notKnown
 replyTo b cut = cutShort
 replyTo b unknown = notKnown
 

@@ -13,7 +13,7 @@ use Rattle.method.proofs.Places.{number-small}
 use Rattle.ledger.specs.Answers as answer
 use Rattle.ledger.specs.Answers.{answerPlace}
 use Rattle.ledger.specs.Book.{Book, Paged}
-use Rattle.ledger.specs.Calls.{postOf, turnTo, withdrawal, lookAt, pageInto, asks}
+use Rattle.ledger.specs.Calls.{postOf, turnTo, withdrawal, lookAt, pageInto, valueOf, asks}
 use Rattle.ledger.proofs.Places.{answer-place}
 use Rattle.grounds.specs.declared.Ground.{Ground}
 use Rattle.grounds.specs.declared.Verdict.{Verdict}
@@ -27,7 +27,7 @@ use Rattle.journal.specs.Replies.{Reply, posted, turned, withdrawn, looked, cut
 use Rattle.journal.specs.Made.{asReply}
 use Rattle.journal.specs.declared.Reply as code
 use Rattle.journal.specs.declared.Reply.the-variants.{Posted, Turned, Withdrawn, Looked, CutShort, NotKnown}
-use Rattle.replay.specs.Returned.{returned, packed, foundBytes, lookReturned, pageReturned, replied}
+use Rattle.replay.specs.Returned.{returned, packed, datedBytes, foundBytes, replyReturned, pageReturned, replied}
 
 -- ---- a verdict as one number
 
@@ -44,37 +44,68 @@ place-is Passed a = refl
 place-is (Refused g) a = refl
 
 -- the place of what a call was answered
-pub place-small : {A : Type 0} (v : Verdict) (a : A) {o : Outcome A} → asOutcome v a ≡ o → answerPlace o ≤ 150 → verdictPlace v ≤ 150
+pub place-small : {A : Type 0} (v : Verdict) (a : A) {o : Outcome A} → asOutcome v a ≡ o → answerPlace o ≤ 1_000 → verdictPlace v ≤ 1_000
 place-small v a e h = omega (arith, place-is v a, ap answerPlace e)
 
--- ---- a look-up
+-- ---- a reply of so many bytes
 
-module _ (lent : List ℕ) {o : Outcome answer.Finding} where
-  pub look-refused : {v : Verdict} {g : Ground} {n : ℕ} → v ≡ Refused g → o ≡ refused (asGround g) → n ≡ verdictNumber v + 256 * verdictPlace v →
-      returned n lent ≡ lookReturned o lent
-  look-refused told e n = rw (n, told, e)
+module _ {A : Type 0} (size : ℕ) (bytes : A → List ℕ) (lent : List ℕ) {o : Outcome A} where
+  pub reply-refused : {v : Verdict} {g : Ground} {n : ℕ} → v ≡ Refused g → o ≡ refused (asGround g) → n ≡ verdictNumber v + 256 * verdictPlace v →
+      returned n lent ≡ replyReturned size bytes o lent
+  reply-refused told e n = rw (n, told, e)
 
-  module _ (f : answer.Finding) (e : o ≡ done f) where
-    pub look-short : length lent < 28 → returned 15 lent ≡ lookReturned o lent
-    look-short h = rw (e, lt-leb 28 (length lent) h)
+  module _ (a : A) (e : o ≡ done a) where
+    pub reply-short : length lent < size → returned 15 lent ≡ replyReturned size bytes o lent
+    reply-short h = rw (e, lt-leb size (length lent) h)
 
-    pub look-found : (exit : List ℕ) → exit ≡ foundBytes f ++ drop 28 lent → 28 ≤ length lent → returned 0 exit ≡ lookReturned o lent
-    look-found exit w h = rw (e, le-leb 28 (length lent) h, w)
+    pub reply-written : (exit : List ℕ) → exit ≡ bytes a ++ drop size lent → size ≤ length lent → returned 0 exit ≡ replyReturned size bytes o lent
+    reply-written exit w h = rw (e, le-leb size (length lent) h, w)
 
--- ---- a reply of six numbers, put one behind the other
+-- ---- what starts a reply: four numbers, put one behind the other
 
-module _ (f : answer.Finding) (lent : List ℕ) (room : 28 ≤ length lent) where
+module _ (l h m a : ℕ) where
   abbrev low : List ℕ
-  low = inBytes 8 (f .low)
+  low = inBytes 8 l
 
   abbrev high : List ℕ
-  high = inBytes 8 (f .high)
+  high = inBytes 8 h
 
   abbrev month : List ℕ
-  month = inBytes 2 (f .month)
+  month = inBytes 2 m
 
   abbrev age : List ℕ
-  age = inBytes 2 (f .age)
+  age = inBytes 2 a
+
+  -- how long the first so many are
+  long-low : length low ≡ 8
+  long-low = inBytes-length 8 l
+
+  long-high : length (low ++ high) ≡ 16
+  long-high = length-append low high ∙ (omega (arith, long-low, inBytes-length 8 h))
+
+  long-month : length (low ++ high ++ month) ≡ 18
+  long-month = length-append (low ++ high) month ∙ (omega (arith, long-high, inBytes-length 2 m))
+
+  long-dated : length (datedBytes l h m a) ≡ 20
+  long-dated = length-append (low ++ high ++ month) age ∙ (omega (arith, long-month, inBytes-length 2 a))
+
+  pub dated-put : (lent : List ℕ) → 20 ≤ length lent → {o₁ o₂ o₃ o₄ : List ℕ} →
+      o₁ ≡ putAt 0 low lent → o₂ ≡ putAt 8 high o₁ → o₃ ≡ putAt 16 month o₂ → o₄ ≡ putAt 18 age o₃ → o₄ ≡ datedBytes l h m a ++ drop 20 lent
+  dated-put lent room e₁ e₂ e₃ e₄ =
+      let to-high = put-behind low high lent 8 long-low (omega arith) e₁ e₂ in
+      let to-month = put-behind (low ++ high) month lent 16 long-high (omega arith) to-high e₃ in
+      let to-age = put-behind (low ++ high ++ month) age lent 18 long-month (omega arith) to-month e₄ in
+      to-age ∙ put-first (datedBytes l h m a) lent ∙ ap (λ (n : ℕ). datedBytes l h m a ++ drop n lent) long-dated
+
+  -- and these as one put
+  put-whole : (lent : List ℕ) {o : List ℕ} → o ≡ datedBytes l h m a ++ drop 20 lent → o ≡ putAt 0 (datedBytes l h m a) lent
+  put-whole lent e = e ∙ ap (λ (n : ℕ). datedBytes l h m a ++ drop n lent) (sym long-dated) ∙ sym (put-first (datedBytes l h m a) lent)
+
+-- ---- a look-up's: the rates behind them
+
+module _ (f : answer.Finding) (lent : List ℕ) (room : 28 ≤ length lent) where
+  abbrev front : List ℕ
+  front = datedBytes (f .low) (f .high) (f .month) (f .age)
 
   abbrev low-rate : List ℕ
   low-rate = inBytes 4 (twosComplement32 (f .lowRate))
@@ -82,36 +113,22 @@ module _ (f : answer.Finding) (lent : List ℕ) (room : 28 ≤ length lent) wher
   abbrev high-rate : List ℕ
   high-rate = inBytes 4 (twosComplement32 (f .highRate))
 
-  -- how long the first so many are
-  long-low : length low ≡ 8
-  long-low = inBytes-length 8 (f .low)
+  long-front : length front ≡ 20
+  long-front = long-dated (f .low) (f .high) (f .month) (f .age)
 
-  long-high : length (low ++ high) ≡ 16
-  long-high = length-append low high ∙ (omega (arith, long-low, inBytes-length 8 (f .high)))
-
-  long-month : length (low ++ high ++ month) ≡ 18
-  long-month = length-append (low ++ high) month ∙ (omega (arith, long-high, inBytes-length 2 (f .month)))
-
-  long-age : length (low ++ high ++ month ++ age) ≡ 20
-  long-age = length-append (low ++ high ++ month) age ∙ (omega (arith, long-month, inBytes-length 2 (f .age)))
-
-  long-low-rate : length (low ++ high ++ month ++ age ++ low-rate) ≡ 24
-  long-low-rate = length-append (low ++ high ++ month ++ age) low-rate ∙ (omega (arith, long-age, inBytes-length 4 (twosComplement32 (f .lowRate))))
+  long-low-rate : length (front ++ low-rate) ≡ 24
+  long-low-rate = length-append front low-rate ∙ (omega (arith, long-front, inBytes-length 4 (twosComplement32 (f .lowRate))))
 
   long-reply : length (foundBytes f) ≡ 28
-  long-reply =
-      length-append (low ++ high ++ month ++ age ++ low-rate) high-rate ∙ (omega (arith, long-low-rate, inBytes-length 4 (twosComplement32 (f .highRate))))
+  long-reply = length-append (front ++ low-rate) high-rate ∙ (omega (arith, long-low-rate, inBytes-length 4 (twosComplement32 (f .highRate))))
 
   -- l and h are the rates' bits
-  pub found-put : {l h : ℕ} {o₁ o₂ o₃ o₄ o₅ o₆ : List ℕ} → l ≡ twosComplement32 (f .lowRate) → h ≡ twosComplement32 (f .highRate) →
-      o₁ ≡ putAt 0 low lent → o₂ ≡ putAt 8 high o₁ → o₃ ≡ putAt 16 month o₂ → o₄ ≡ putAt 18 age o₃ →
-      o₅ ≡ putAt 20 (inBytes 4 l) o₄ → o₆ ≡ putAt 24 (inBytes 4 h) o₅ → o₆ ≡ foundBytes f ++ drop 28 lent
-  found-put el eh e₁ e₂ e₃ e₄ e₅ e₆ =
-      let to-high = put-behind low high lent 8 long-low (omega arith) e₁ e₂ in
-      let to-month = put-behind (low ++ high) month lent 16 long-high (omega arith) to-high e₃ in
-      let to-age = put-behind (low ++ high ++ month) age lent 18 long-month (omega arith) to-month e₄ in
-      let to-low-rate = put-behind (low ++ high ++ month ++ age) low-rate lent 20 long-age (omega arith) to-age (rw el at e₅) in
-      let to-high-rate = put-behind (low ++ high ++ month ++ age ++ low-rate) high-rate lent 24 long-low-rate (omega arith) to-low-rate (rw eh at e₆) in
+  pub found-put : {l h : ℕ} {o₁ o₂ o₃ : List ℕ} → l ≡ twosComplement32 (f .lowRate) → h ≡ twosComplement32 (f .highRate) →
+      o₁ ≡ front ++ drop 20 lent → o₂ ≡ putAt 20 (inBytes 4 l) o₁ → o₃ ≡ putAt 24 (inBytes 4 h) o₂ → o₃ ≡ foundBytes f ++ drop 28 lent
+  found-put el eh e₁ e₂ e₃ =
+      let to-age = put-whole (f .low) (f .high) (f .month) (f .age) lent e₁ in
+      let to-low-rate = put-behind front low-rate lent 20 long-front (omega arith) to-age (rw el at e₂) in
+      let to-high-rate = put-behind (front ++ low-rate) high-rate lent 24 long-low-rate (omega arith) to-low-rate (rw eh at e₃) in
       to-high-rate ∙ put-first (foundBytes f) lent ∙ ap (λ (n : ℕ). foundBytes f ++ drop n lent) long-reply
 
 -- ---- a page
@@ -130,12 +147,13 @@ replyPlace (looked y o) = answerPlace o
 replyPlace cutShort = 0
 replyPlace notKnown = 0
 
-reply-place : (b : Book) (f : Front) → replyPlace (replyTo b f) ≤ 150
+reply-place : (b : Book) (f : Front) → replyPlace (replyTo b f) ≤ 1_000
 reply-place b (whole (postOf s) n) = answer-place b (postOf s)
 reply-place b (whole (turnTo m) n) = answer-place b (turnTo m)
 reply-place b (whole withdrawal n) = answer-place b withdrawal
 reply-place b (whole (asks (lookAt w v y)) n) = answer-place b (asks (lookAt w v y))
 reply-place b (whole (asks (pageInto w l)) n) = omega arith
+reply-place b (whole (asks (valueOf fs)) n) = omega arith
 reply-place b cut = omega arith
 reply-place b unknown = omega arith
 
@@ -162,5 +180,5 @@ module _ (v : Verdict) (m : ℕ) (d : Finding) where
     pub call-number : called x ≡ true → verdictNumber v + 256 * verdictPlace v ≡ replied (replyTo b f)
     call-number h = verdict-of x h .0 ∙ ap replied e
 
-    pub call-place : called x ≡ true → verdictPlace v ≤ 150
+    pub call-place : called x ≡ true → verdictPlace v ≤ 1_000
     call-place h = omega (arith, verdict-of x h .1, ap replyPlace e, reply-place b f)

@@ -7,8 +7,9 @@ use lib.ListN.{length, drop}
 use Rattle.method.specs.Bytes.{inBytes, twosComplement32}
 use Rattle.method.specs.Units.{Which, plain, adjusted}
 use Rattle.method.specs.Grounds.{bufferTooShort, numberOf, Outcome, refused, done}
-use Rattle.ledger.specs.Answers.{Wanted, factor, sum, Finding, answerNumber, answerPlace}
-use Rattle.ledger.specs.Book.{Book, Paged, lookUp, page}
+use Rattle.valuation.specs.Block.{Flow}
+use Rattle.ledger.specs.Answers.{Wanted, factor, sum, Finding, Value, answerNumber, answerPlace}
+use Rattle.ledger.specs.Book.{Book, Paged, lookUp, page, value}
 use Rattle.ledger.specs.Calls.{run}
 use Rattle.ledger.specs.Count.{Count, count}
 use Rattle.journal.specs.Journal.{decode}
@@ -24,6 +25,9 @@ lookAfter limit journal w v y = lookUp (bookAfter limit journal) w v y
 
 abbrev pub pageAfter : ℕ → List ℕ → Which → List ℕ → Paged
 pageAfter limit journal w l = page (bookAfter limit journal) w l
+
+abbrev pub valueAfter : ℕ → List ℕ → List Flow → Outcome Value
+valueAfter limit journal fs = value (bookAfter limit journal) fs
 
 abbrev pub countOf : List ℕ → Count
 countOf journal = count (decode journal)
@@ -50,18 +54,31 @@ wantedBy kind = cond (eqb (kind / 2 % 2) 1) sum factor
 abbrev pub lookBy : ℕ → List ℕ → ℕ → ℕ → Outcome Finding
 lookBy limit journal kind y = lookAfter limit journal (byKind kind) (wantedBy kind) y
 
--- low (8), high (8), month (2), age (2), low rate (4), high rate (4)
+-- low (8), high (8), month (2), age (2)
+abbrev pub datedBytes : ℕ → ℕ → ℕ → ℕ → List ℕ
+datedBytes low high month age = inBytes 8 low ++ inBytes 8 high ++ inBytes 2 month ++ inBytes 2 age
+
+-- low rate (4), high rate (4) behind these
 abbrev pub foundBytes : Finding → List ℕ
 foundBytes f =
-    inBytes 8 (f .low) ++ inBytes 8 (f .high) ++ inBytes 2 (f .month) ++ inBytes 2 (f .age)
+    datedBytes (f .low) (f .high) (f .month) (f .age)
     ++ inBytes 4 (twosComplement32 (f .lowRate))
     ++ inBytes 4 (twosComplement32 (f .highRate))
 
--- the look-up's own grounds before a buffer that is too short; bytes past the reply are kept
+abbrev pub valueBytes : Value → List ℕ
+valueBytes v = datedBytes (v .low) (v .high) (v .month) (v .age)
+
+-- a reply of so many bytes: the question's own grounds before a buffer that is too short; bytes past the reply are kept
+abbrev pub replyReturned : {A : Type 0} → ℕ → (A → List ℕ) → Outcome A → List ℕ → Returned
+replyReturned {A} size bytes (refused g) l = returned (packed {A = A} (refused g)) l
+replyReturned size bytes (done a) l =
+    cond (leb size (length l)) (returned 0 (bytes a ++ drop size l)) (returned (numberOf bufferTooShort) l)
+
 abbrev pub lookReturned : Outcome Finding → List ℕ → Returned
-lookReturned (refused g) l = returned (packed {A = Finding} (refused g)) l
-lookReturned (done f) l =
-    cond (leb 28 (length l)) (returned 0 (foundBytes f ++ drop 28 l)) (returned (numberOf bufferTooShort) l)
+lookReturned o l = replyReturned 28 foundBytes o l
+
+abbrev pub valueReturned : Outcome Value → List ℕ → Returned
+valueReturned o l = replyReturned 20 valueBytes o l
 
 abbrev pub pageReturned : Paged → Returned
 pageReturned p = returned (packed (p .answer)) (p .buffer)

@@ -4,6 +4,7 @@ use big_endian::twos_complement;
 use book::Book;
 use book::Finding;
 use book::Looked;
+use book::Valued;
 use book::Wanted;
 use book::Which;
 use grounds::Verdict;
@@ -12,18 +13,20 @@ ghost use mathlib.Core.Path.{_≡_};
 ghost use mathlib.Core.List.{_++_};
 ghost use Prim.Native.Nat.{_+_, _*_, _≤_};
 ghost use lib.ListN.{length, drop};
-ghost use Rattle.ledger.specs.Calls.{lookAt, pageInto};
+ghost use Rattle.ledger.specs.Calls.{lookAt, pageInto, valueOf};
 ghost use Rattle.ledger.specs.Tells.{Tells};
 ghost use Rattle.ledger.specs.Demands.{Demand3, Withdraws};
 ghost use Rattle.grounds.specs.Verdicts.{resultOr, verdictNumber, verdictPlace};
-ghost use Rattle.book.specs.Views.{asWhich, asWanted, asBook, asFinding, asLooked, noFinding, asPaged};
+ghost use Rattle.block.specs.Views.{paired};
+ghost use Rattle.book.specs.Views.{asWhich, asWanted, asBook, asFinding, asLooked, noFinding, asPaged, asValued};
+ghost use Rattle.book.specs.Steps.{ValuedAs};
 ghost use Rattle.journal.specs.Journal.{front, decode};
 ghost use Rattle.journal.specs.Replies.{replyTo};
-ghost use Rattle.replay.specs.Returned.{bookAfter, lookAfter, pageAfter, lookBy, countOf, byKind, wantedBy, foundBytes};
-ghost use Rattle.replay.specs.Returned.{returned, lookReturned, pageReturned, replied};
+ghost use Rattle.replay.specs.Returned.{bookAfter, lookAfter, pageAfter, valueAfter, lookBy, countOf, byKind, wantedBy, datedBytes, foundBytes};
+ghost use Rattle.replay.specs.Returned.{returned, lookReturned, pageReturned, valueReturned, replied};
 
 // Makes all calls, from a fresh book of this age limit on.
-fn replay(age_limit: u64, calls: &[u8]) -> Book
+pub fn replay(age_limit: u64, calls: &[u8]) -> Book
     ensures { λ r. ⌜ asBook r ≡ bookAfter «age_limit» (now (calls .entry)) ⌝ }
 {
     let mut book = book::fresh(age_limit);
@@ -58,6 +61,14 @@ pub fn page_after(age_limit: u64, calls: &[u8], which: Which, out: &mut [u8]) ->
     book::page(book, which, out)
 }
 
+// What a valuation of plain numbers, year and cents in turn, answers after these calls.
+pub fn value_after(age_limit: u64, calls: &[u8], numbers: &[u64]) -> Valued
+    ensures valued { λ r. ⌜ ValuedAs (bookAfter «age_limit» (now (calls .entry))) (paired (now (numbers .entry))) r ⌝ }
+    ensures told { λ r. ⌜ Tells «age_limit» (countOf (now (calls .entry))) (valueOf (paired (now (numbers .entry)))) (asValued r) ⌝ }
+{
+    book::value_of_numbers(replay(age_limit, calls), numbers)
+}
+
 // ---- the same for programs in C
 
 // Bit 0 names the adjusted curve.
@@ -80,22 +91,30 @@ fn wanted_by(kind: u64) -> Wanted
     Wanted::Factor
 }
 
-// A look-up's reply: each number straight to its own bytes.
+// What starts every reply: each number straight to its own bytes.
+fn put_dated(low: u64, high: u64, month: u64, age: u64, out: &mut [u8])
+    requires { ⌜ 20 ≤ length (now out) ⌝ }
+    ensures { λ _. ⌜ now (out .exit) ≡ datedBytes low high month age ++ drop 20 (now (out .entry)) ⌝ }
+{
+    put(low, 8, 0, out);
+    put(high, 8, 8, out);
+    put(month, 2, 16, out);
+    put(age, 2, 18, out);
+}
+
+// A look-up's reply.
 fn put_found(f: Finding, out: &mut [u8])
     requires { ⌜ 28 ≤ length (now out) ⌝ }
     ensures { λ _. ⌜ now (out .exit) ≡ foundBytes (asFinding f) ++ drop 28 (now (out .entry)) ⌝ }
 {
-    put(f.low, 8, 0, out);
-    put(f.high, 8, 8, out);
-    put(f.month, 2, 16, out);
-    put(f.age, 2, 18, out);
+    put_dated(f.low, f.high, f.month, f.age, out);
     put(twos_complement(f.low_rate), 4, 20, out);
     put(twos_complement(f.high_rate), 4, 24, out);
 }
 
-// A place is at most 150.
+// A place is at most 1,000, an entry of a list.
 fn packed(verdict: Verdict) -> u64
-    requires { ⌜ verdictPlace verdict ≤ 150 ⌝ }
+    requires { ⌜ verdictPlace verdict ≤ 1_000 ⌝ }
     ensures { λ r. ⌜ r ≡ verdictNumber verdict + 256 * verdictPlace verdict ⌝ }
 {
     grounds::number(verdict) + 256 * grounds::place(verdict)
@@ -137,6 +156,30 @@ pub extern "C" fn tuyqorem_page_after(
     ensures told { λ _. ⌜ Demand3 «age_limit» (decode (now (calls .entry))) ⌝ }
 {
     packed(page_after(age_limit, calls, which_by(kind), out))
+}
+
+// Year and cents in turn; an odd count is no list.
+#[no_mangle]
+pub extern "C" fn tuyqorem_value_after(
+    age_limit: u64,
+    calls: &[u8],
+    flows: &[u64],
+    out: &mut [u8],
+) -> u64
+    ensures returned { λ r. ⌜ returned r (now (out .exit)) ≡ valueReturned (valueAfter «age_limit» (now (calls .entry)) (paired (now (flows .entry)))) (now (out .entry)) ⌝ }
+    ensures told { λ _. ⌜ Demand3 «age_limit» (decode (now (calls .entry))) ⌝ }
+{
+    let valued = value_after(age_limit, calls, flows);
+    let verdict = valued.verdict;
+    let Verdict::Passed = verdict else {
+        return packed(verdict);
+    };
+    if out.len() < 20 {
+        return 15;
+    }
+    let value = valued.value;
+    put_dated(value.low, value.high, value.month, value.age, out);
+    0
 }
 
 // The answer of one more call, the first record of `call`; 255 where that is no whole record.

@@ -1,4 +1,4 @@
--- A number below 256, and a place of at most 150.
+-- A number below 256, and a place of at most 1,000.
 use native.Mathlib.Omega.{arith}
 use Rattle.replay.proofs.Returning.{verdict-small}
 use borrow.Author.Needs.{needs}

@@ -1,4 +1,4 @@
--- Each number behind the one before it; what is past the reply is as lent.
+-- The rates behind the others; what is past the reply is as lent.
 use mathlib.Core.Path.{ap, _∙_}
 use mir.Syntax.{w64}
 use mir.ValLaws.{toZ-ofZ}
@@ -10,29 +10,20 @@ use borrow.Author.Needs.{needs}
 use Rattle.replay.proofs.put_found.Statement.{statement}
 use Rattle.replay.proofs.put_found.Tie as tie
 
-put-requires : tie.Need-put-requires
-put-requires c κs = search needs
-
-put-requires-2 : tie.Need-put-requires-2
-put-requires-2 c κs = search needs
-
-put-requires-3 : tie.Need-put-requires-3
-put-requires-3 c κs = search needs
-
-put-requires-4 : tie.Need-put-requires-4
-put-requires-4 c κs = search needs
+put-dated-requires : tie.Need-put-dated-requires
+put-dated-requires c κs = search needs
 
 twos-complement-requires : tie.Need-twos-complement-requires
 twos-complement-requires c κs = search needs
 
-put-requires-5 : tie.Need-put-requires-5
-put-requires-5 c κs = search needs
+put-requires : tie.Need-put-requires
+put-requires c κs = search needs
 
 twos-complement-requires-2 : tie.Need-twos-complement-requires-2
 twos-complement-requires-2 c κs = search needs
 
-put-requires-6 : tie.Need-put-requires-6
-put-requires-6 c κs = search needs
+put-requires-2 : tie.Need-put-requires-2
+put-requires-2 c κs = search needs
 
 same-length : tie.Need-same-length
 same-length c = search needs
@@ -43,35 +34,26 @@ returns c =
     let high-rate = at-high-rate .before .before in
     let at-low-rate = high-rate .before .before .before .before in
     let low-rate = at-low-rate .before .before in
-    let at-age = low-rate .before .before .before .before in
-    let at-month = at-age .before .before .before .before in
-    let at-high = at-month .before .before .before .before in
-    let at-low = at-high .before .before .before .before in
-    let s = at-low .before .before .before in
+    let at-dated = low-rate .before .before .before .before in
+    let s = at-dated .before .before .before in
     let f = s .args .f in
     let low-read = toZ-ofZ w64 (f .«low_rate») (record { sfits = low-rate .before .struct-told .given .1 .1 .1 .1 .0 .1 }) in
     let high-read = toZ-ofZ w64 (f .«high_rate») (record { sfits = high-rate .before .struct-told2 .given .1 .1 .1 .1 .1 .0 .1 }) in
     found-put (asFinding f) (now (s .args .out)) (s .pre)
     (low-rate .twos-complement .ensures ∙ ap twosComplement32 low-read)
     (high-rate .twos-complement2 .ensures ∙ ap twosComplement32 high-read)
-    (at-low .put .ensures)
-    (at-high .put2 .ensures)
-    (at-month .put3 .ensures)
-    (at-age .put4 .ensures)
-    (at-low-rate .put5 .ensures)
-    (at-high-rate .put6 .ensures)
+    (at-dated .put-dated .ensures)
+    (at-low-rate .put .ensures)
+    (at-high-rate .put2 .ensures)
 
 pub put-found-spec : {M : Type 1} → statement M
 put-found-spec =
     tie.close
     (tie.spec
-    put-requires
-    put-requires-2
-    put-requires-3
-    put-requires-4
+    put-dated-requires
     twos-complement-requires
-    put-requires-5
+    put-requires
     twos-complement-requires-2
-    put-requires-6
+    put-requires-2
     same-length
     returns)

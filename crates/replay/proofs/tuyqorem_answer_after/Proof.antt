@@ -45,7 +45,7 @@ module _ (c : tie.After-make) (x : Reply) (told : c .make .result .reply ≡ x) 
   told-of-withdrawals : Withdraws (start .args .age-limit) (decode (now (start .args .calls)))
   told-of-withdrawals = withdraws (start .args .age-limit) (decode (now (start .args .calls)))
 
-  place : called x ≡ true → verdictPlace (made .verdict) ≤ 150
+  place : called x ≡ true → verdictPlace (made .verdict) ≤ 1_000
   place h = call-place (made .verdict) (made .month) (made .finding) x book record-read reply h
 
   number : called x ≡ true → verdictNumber (made .verdict) + 256 * verdictPlace (made .verdict) ≡ replied (replyTo book record-read)

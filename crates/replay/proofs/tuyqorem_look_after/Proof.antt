@@ -10,8 +10,8 @@ use Rattle.ledger.proofs.Theorem.{demand-3}
 use Rattle.grounds.proofs.Chain.{at-verdict}
 use Rattle.book.specs.Views.{asFinding, asLooked}
 use Rattle.journal.specs.Journal.{decode}
-use Rattle.replay.specs.Returned.{bookAfter, byKind, wantedBy}
-use Rattle.replay.proofs.Returning.{place-small, look-refused, look-short, look-found}
+use Rattle.replay.specs.Returned.{bookAfter, byKind, wantedBy, foundBytes}
+use Rattle.replay.proofs.Returning.{place-small, reply-refused, reply-short, reply-written}
 use borrow.Author.Needs.{needs}
 use Rattle.replay.proofs.tuyqorem_look_after.Statement.{statement}
 use Rattle.replay.proofs.tuyqorem_look_after.Tie as tie
@@ -59,14 +59,14 @@ returns c =
     let a = start at-look .args in
     let told = c .before .enum-told2 .given .1 in
     let refusal = at-verdict _ told (looked-is at-look) in
-    (look-refused (now (a .out)) told refusal (c .packed .ensures), demand-3 (a .age-limit) (decode (now (a .calls))))
+    (reply-refused 28 foundBytes (now (a .out)) told refusal (c .packed .ensures), demand-3 (a .age-limit) (decode (now (a .calls))))
 
 returns-2 : tie.Need-returns-2
 returns-2 c =
     let at-look = c .before .before .before in
     let a = start at-look .args in
     let found = at-verdict _ (c .before .enum-told .given .1) (looked-is at-look) in
-    (look-short (now (a .out)) _ found (c .if1 .taken), demand-3 (a .age-limit) (decode (now (a .calls))))
+    (reply-short 28 foundBytes (now (a .out)) _ found (c .if1 .taken), demand-3 (a .age-limit) (decode (now (a .calls))))
 
 put-found-requires : tie.Need-put-found-requires
 put-found-requires c κs = search needs
@@ -82,7 +82,7 @@ returns-3 c =
     let at-look = at-told .before .before in
     let a = start at-look .args in
     let found = at-verdict _ (at-told .enum-told .given .1) (looked-is at-look) in
-    (look-found (now (a .out)) _ found _ (at-put .put-found .ensures) (at-room .if1 .left), demand-3 (a .age-limit) (decode (now (a .calls))))
+    (reply-written 28 foundBytes (now (a .out)) _ found _ (at-put .put-found .ensures) (at-room .if1 .left), demand-3 (a .age-limit) (decode (now (a .calls))))
 
 pub tuyqorem-look-after-spec : {M : Type 1} → statement M
 tuyqorem-look-after-spec =

@@ -1,0 +1,5 @@
+pub mod Enters
+pub mod Entry
+pub mod Paired
+pub mod Worths
+pub mod Worked
