@@ -29,21 +29,27 @@
  * The book holds for each of its curves, ready for look-ups, the sum of the lows and the sum of the highs of years 1 to t, for
  * every year t; each accepted post and withdrawal sets them with the curve.
  *
+ * A block of policies is a lent list of cash flows, each a year and whole cents, of which equal years may repeat. It is valued on
+ * the plain curve, whatever adjustment the sheet has: the sum of cents * factor / 1,000,000,000 over all entries, rounded once at
+ * the end, lows down and highs up. No record of a journal values a block.
+ *
  * A withdrawal takes back the latest accepted post that is not withdrawn: both curves and their month are again what stood
  * before it, be it none, and the told month remains. Up to three posts can be taken back, one after another; a post where three
  * can be forgets only the oldest way back. Where no post is left to withdraw the answer is 18.
  *
- * This is the interface from U10 on, as it was: only, a sheet may start with a profile record (0x08), by which it was
- * turned down on 1 or 2 before, 19 is a new answer, and places of records count that record where it stands; no
- * function has changed for it, and sheets that start with another byte are answered as they were. From U9 on, where
- * rates, an ultimate rate or an adjustment of 0 make a logarithm or a growth known, bands are narrower, and a post
- * may be accepted that was turned down on 8 or 10. A sheet that passed passes. From the annuity sums (U8) on bit 1 of
- * a look-up's kind, ignored before, asks for the sum; no function has changed for it, and no record of a journal asks
- * for one. From U7 on a journal's 0x57, an unknown kind before, is a withdrawal; no function has changed for it. From
- * U6 on tuyqorem_look_after and tuyqorem_page_after have the parameter kind, and had not; a look-up's reply has 28
- * bytes, and had 12 before U3. So a program is compiled with the header of the library that it is linked with. A
- * program leaves the bits of kind that have no meaning at 0, as bit 1 was to be left before. From U5 on a sheet's
- * volume of 0 at 25, 30, 40 or 50 years drops the quote of that maturity; no function has changed for it.
+ * This is the interface from U11 on, as it was: only, there is one function more, tuyqorem_value_after, and 20 to 22
+ * are new answers, which no other function gives; the place of its 21 or 22 is an entry of its list, up to 1,000. No
+ * function has changed for it, and no journal is read otherwise. From U10 on a sheet may start with a profile record
+ * (0x08), by which it was turned down on 1 or 2 before, 19 is an answer, and places of records count that record where
+ * it stands; no function has changed for it, and sheets that start with another byte are answered as they were. From
+ * U9 on, where rates, an ultimate rate or an adjustment of 0 make a logarithm or a growth known, bands are narrower,
+ * and a post may be accepted that was turned down on 8 or 10. A sheet that passed passes. From the annuity sums (U8)
+ * on bit 1 of a look-up's kind, ignored before, asks for the sum; no function has changed for it, and no record of a
+ * journal asks for one. From U7 on a journal's 0x57, an unknown kind before, is a withdrawal; no function has changed
+ * for it. From U6 on tuyqorem_look_after and tuyqorem_page_after have the parameter kind, and had not; a look-up's
+ * reply has 28 bytes, and had 12 before U3. So a program is compiled with the header of the library that it is linked
+ * with. A program leaves the bits of kind that have no meaning at 0, as bit 1 was to be left before. From U5 on a
+ * sheet's volume of 0 at 25, 30, 40 or 50 years drops the quote of that maturity; no function has changed for it.
  *
  * It is proved of tuyqorem_look_after and tuyqorem_page_after, for every age limit, every journal and every kind: no curve is
  * found exactly when no post of the journal is accepted and not withdrawn or, for the adjusted one, when the last such sheet has
@@ -54,11 +60,16 @@
  * largest and the smallest of their rule (docs/SPECIFICATION.md, 7.1) for the year's factor, whichever is wanted, and the true
  * curve's own rate of every order lies between them; a look-up answers 17 exactly when there is no high rate.
  *
+ * It is proved of tuyqorem_value_after, for every age limit, every journal and every list: no curve is found exactly when no post
+ * of the journal is accepted and not withdrawn; a curve older than the limit answers 16; otherwise a list without a ground of its
+ * own is valued, month and age are those of a look-up, and the true curve's value of every order, worked from the last accepted
+ * post not withdrawn, lies between low and high.
+ *
  * It is proved of tuyqorem_answer_after, for every age limit, every journal and every call: the answer is exactly the one
  * that the definitions give to that call on the book of the journal; a withdrawal is answered 18 exactly when the journal's
  * depth is 0, to which an accepted post adds 1, up to 3, and from which an accepted withdrawal takes 1.
  *
- * A buffer may not overlap the journal.
+ * A buffer may overlap neither the journal nor the cash flows.
  */
 #ifndef TUYQOREM_H
 #define TUYQOREM_H
@@ -96,6 +107,17 @@ uint64_t tuyqorem_page_after(uint64_t age_limit, const uint8_t *calls, size_t ca
  * 255, where call starts with no whole record: it is empty, its kind is unknown or its body is cut. */
 uint64_t tuyqorem_answer_after(uint64_t age_limit, const uint8_t *calls, size_t calls_len, const uint8_t *call,
                                size_t call_len);
+
+/* The value of a block of policies on the plain curve after the journal's calls. The cash flows are flows_len numbers, year and
+ * cents in turn, so that a list of n entries has 2 * n numbers; an odd count is no list. Returns 0 and writes 20 bytes to out: low
+ * (8), high (8), sheet month (2), age in months (2), high byte first. Low and high are in whole cents, at most 2,000,000,000,000,
+ * which does not fit in 4 bytes. The bytes of out past them are kept. Otherwise out is left as it was and the answer is number +
+ * 256 * place, the number being, tried in this order, 14 (no curve), 16 (the curve is older than the age limit), 20 (no entry, more
+ * than 1,000 entries, or an odd count), then entry by entry 21 (the year is not 1 to 150) before 22 (the cents are above
+ * 1,000,000,000), and after all entries 15 (out has fewer than 20 bytes); the place is the entry, from 1 to 1,000, of 21 and 22,
+ * else 0. A year without a high rate is valued: 17 is no answer here. */
+uint64_t tuyqorem_value_after(uint64_t age_limit, const uint8_t *calls, size_t calls_len, const uint64_t *flows,
+                              size_t flows_len, uint8_t *out, size_t out_len);
 
 #ifdef __cplusplus
 }

@@ -5,20 +5,25 @@ use std::collections::BTreeMap;
 use std::fmt;
 
 use reference::accepted::Count;
+use reference::blocks::Valuations;
 use reference::book::{Book, Found, PAGE_LENGTH};
 use reference::curve::{Which, YEARS};
 use reference::desk::LOOK_UP;
-use reference::journal::{answer_on, book_after, calls, look_up_by, WITHDRAWAL};
+use reference::enclosure::Enclosure;
+use reference::journal::{answer_on, book_after, calls, look_up_by, value_by, WITHDRAWAL};
 use reference::market::Market;
 use reference::questions::curve_age;
 use reference::refusal::Refusal;
 use reference::streams::Random;
 use reference::sums::Wanted;
 
-use crate::{answer_after, look_after, page_after};
+use crate::{answer_after, look_after, page_after, value_after};
 
 /// Bytes in the reply to a look-up.
 pub const LOOK_UP_LENGTH: usize = 28;
+
+/// Bytes in the reply to a valuation; a look-up's starts like it.
+pub const VALUE_LENGTH: usize = 20;
 
 /// The ground of a year that is not on the curve.
 const NO_YEAR: u64 = 13;
@@ -40,6 +45,11 @@ const NOTHING_TO_WITHDRAW: u64 = 18;
 
 /// The ground of a profile record that names no market.
 const NO_PROFILE: u64 = 19;
+
+/// The grounds of a list of cash flows, of an entry's year and of its cents.
+const NO_LIST: u64 = 20;
+const NO_FLOW_YEAR: u64 = 21;
+const TOO_MANY_CENTS: u64 = 22;
 
 /// What a lent buffer of this length holds: seeded bytes, among which those that were written
 /// or moved from elsewhere in the buffer are seen.
@@ -63,12 +73,19 @@ pub enum Question {
     Answer {
         call: Vec<u8>,
     },
+    /// Years and cents in turn, if they are a list.
+    Value {
+        numbers: Vec<u64>,
+        length: usize,
+    },
 }
 
 impl Question {
     fn length(&self) -> usize {
         match self {
-            Question::LookUp { length, .. } | Question::Page { length, .. } => *length,
+            Question::LookUp { length, .. }
+            | Question::Page { length, .. }
+            | Question::Value { length, .. } => *length,
             Question::Answer { .. } => 0,
         }
     }
@@ -84,16 +101,18 @@ impl Question {
             Question::Page { .. } => Kind::Page(which),
             Question::Answer { .. } if self.withdraws() => Kind::Withdrawal,
             Question::Answer { .. } => Kind::Answer,
+            Question::Value { length, .. } if *length < VALUE_LENGTH => Kind::ShortValue,
+            Question::Value { .. } => Kind::Value,
         }
     }
 
-    /// The curve that it names; a record's look-up is of the plain one.
+    /// The curve that it names; a record's look-up and a valuation are of the plain one.
     fn which(&self) -> Which {
         match self {
             Question::LookUp { named, .. } | Question::Page { named, .. } => {
                 Which::named_by(*named)
             }
-            Question::Answer { .. } => Which::Plain,
+            Question::Answer { .. } | Question::Value { .. } => Which::Plain,
         }
     }
 
@@ -124,6 +143,9 @@ impl fmt::Display for Question {
             ),
             Question::Page { named, length } => write!(f, "page of {named:#x} into {length} bytes"),
             Question::Answer { call } => write!(f, "answer to {}", hex(call)),
+            Question::Value { numbers, length } => {
+                write!(f, "value of {numbers:?} into {length} bytes")
+            }
         }
     }
 }
@@ -140,11 +162,13 @@ pub enum Kind {
     ShortPage(Which),
     Answer,
     Withdrawal,
+    Value,
+    ShortValue,
 }
 
 impl Kind {
     /// All kinds, in the order in which they are told.
-    pub const ALL: [Kind; 14] = [
+    pub const ALL: [Kind; 16] = [
         Kind::LookUp(Which::Plain),
         Kind::LookUp(Which::Adjusted),
         Kind::ShortLookUp(Which::Plain),
@@ -159,6 +183,8 @@ impl Kind {
         Kind::ShortPage(Which::Adjusted),
         Kind::Answer,
         Kind::Withdrawal,
+        Kind::Value,
+        Kind::ShortValue,
     ];
 
     /// The kind of a look-up of this curve and amount, into a buffer that is too short or not.
@@ -173,9 +199,19 @@ impl Kind {
 
     /// The answers that questions of this kind must meet for them to mean something. A page has
     /// no rates. An adjusted curve, which often is missing, must be there for some: they are
-    /// accepted, or the buffer is too short for them. Sums meet all of a look-up's answers but 13.
+    /// accepted, or the buffer is too short for them. Sums meet all of a look-up's answers but 13,
+    /// and values all that they have.
     fn due(self) -> &'static [u64] {
         match self {
+            Kind::Value => &[0, NO_CURVE, TOO_OLD, NO_LIST, NO_FLOW_YEAR, TOO_MANY_CENTS],
+            Kind::ShortValue => &[
+                SHORT_BUFFER,
+                NO_CURVE,
+                TOO_OLD,
+                NO_LIST,
+                NO_FLOW_YEAR,
+                TOO_MANY_CENTS,
+            ],
             Kind::Sum(_) => &[0, NO_CURVE, TOO_OLD, NO_HIGH_RATE],
             Kind::ShortSum(_) => &[SHORT_BUFFER, NO_CURVE, TOO_OLD, NO_HIGH_RATE],
             Kind::LookUp(Which::Adjusted) => &[0, TOO_OLD, NO_HIGH_RATE],
@@ -194,7 +230,7 @@ impl Kind {
             Kind::LookUp(which) | Kind::ShortLookUp(which) => which,
             Kind::Sum(which) | Kind::ShortSum(which) => which,
             Kind::Page(which) | Kind::ShortPage(which) => which,
-            Kind::Answer | Kind::Withdrawal => Which::Plain,
+            Kind::Answer | Kind::Withdrawal | Kind::Value | Kind::ShortValue => Which::Plain,
         }
     }
 }
@@ -210,6 +246,8 @@ impl fmt::Display for Kind {
             Kind::ShortPage(_) => "pages into short buffers",
             Kind::Answer => return f.write_str("answers to other records"),
             Kind::Withdrawal => return f.write_str("answers to withdrawals"),
+            Kind::Value => "values",
+            Kind::ShortValue => "values into short buffers",
         };
         match self.which() {
             Which::Plain => f.write_str(asked),
@@ -302,7 +340,7 @@ impl<'a> Case<'a> {
             Question::LookUp { year, .. } if !(1..=YEARS as u64).contains(year) => {
                 answer == NO_YEAR
             }
-            Question::LookUp { .. } | Question::Page { .. } => {
+            Question::LookUp { .. } | Question::Page { .. } | Question::Value { .. } => {
                 (answer != NO_CURVE) == self.count.finds(question.which())
             }
             Question::Answer { .. } if question.withdraws() => match self.count.depth() {
@@ -319,6 +357,7 @@ impl<'a> Case<'a> {
             Question::LookUp { named, year, .. } => look_after(limit, journal, *named, *year, out),
             Question::Page { named, .. } => page_after(limit, journal, *named, out),
             Question::Answer { call } => answer_after(limit, journal, call),
+            Question::Value { numbers, .. } => value_after(limit, journal, numbers, out),
         }
     }
 
@@ -326,10 +365,15 @@ impl<'a> Case<'a> {
         match question {
             Question::LookUp { named, year, .. } => {
                 let found = look_up_by(&self.book, *named, *year);
-                code(found.and_then(|found| write_look_up(&found, out)))
+                code(found.and_then(|found| write(&look_up_reply(&found), out)))
             }
             Question::Page { .. } => code(self.book.page(question.which(), out)),
             Question::Answer { call } => answer_on(&self.book, call),
+            Question::Value { numbers, .. } => {
+                let valued = value_by(&self.book, numbers);
+                let reply = valued.map(|v| dated_reply(v.amount, v.month, v.age));
+                code(reply.and_then(|reply| write(&reply, out)))
+            }
         }
     }
 }
@@ -342,35 +386,42 @@ fn code(answer: Result<(), Refusal>) -> u64 {
     answer.err().map_or(0, Refusal::code)
 }
 
-/// The reply to a look-up that the book answers; a buffer too short for it is tried last.
-fn write_look_up(found: &Found, out: &mut [u8]) -> Result<(), Refusal> {
-    let reply = out.get_mut(..LOOK_UP_LENGTH).ok_or(Refusal::plain(15))?;
-    reply.copy_from_slice(&look_up_reply(found));
+/// The reply to a question that the book answers; a buffer too short for it is tried last.
+fn write(reply: &[u8], out: &mut [u8]) -> Result<(), Refusal> {
+    let start = out.get_mut(..reply.len()).ok_or(Refusal::plain(15))?;
+    start.copy_from_slice(reply);
     Ok(())
 }
 
-/// Low and high of the factor or the sum, 8 bytes each, month and age, 2 bytes each, low rate and high rate, 4 bytes
+/// Low and high of the factor or the sum, month and age, then low rate and high rate, 4 bytes
 /// each in two's complement.
 pub fn look_up_reply(found: &Found) -> [u8; LOOK_UP_LENGTH] {
     let mut reply = [0; LOOK_UP_LENGTH];
-    reply[..8].copy_from_slice(&eight_bytes(found.amount.low));
-    reply[8..16].copy_from_slice(&eight_bytes(found.amount.high));
-    reply[16..18].copy_from_slice(&found.month.to_be_bytes());
-    reply[18..20].copy_from_slice(&found.age.to_be_bytes());
+    reply[..VALUE_LENGTH].copy_from_slice(&dated_reply(found.amount, found.month, found.age));
     reply[20..24].copy_from_slice(&found.rates.low.to_be_bytes());
     reply[24..].copy_from_slice(&found.rates.high.to_be_bytes());
     reply
 }
 
+/// Low and high, 8 bytes each, month and age, 2 bytes each: the whole reply to a valuation.
+pub fn dated_reply(amount: Enclosure, month: u16, age: u16) -> [u8; VALUE_LENGTH] {
+    let mut reply = [0; VALUE_LENGTH];
+    reply[..8].copy_from_slice(&eight_bytes(amount.low));
+    reply[8..16].copy_from_slice(&eight_bytes(amount.high));
+    reply[16..18].copy_from_slice(&month.to_be_bytes());
+    reply[18..].copy_from_slice(&age.to_be_bytes());
+    reply
+}
+
 fn eight_bytes(value: i128) -> [u8; 8] {
     u64::try_from(value)
-        .expect("an amount from 0 to 300 U")
+        .expect("a sum from 0 to 300 U, or a value to 2,000 U")
         .to_be_bytes()
 }
 
 /// How often each kind of question met each number, in all and by the profile of the curve that
-/// stood, adjusted curves that were missing beside a plain one, and curves at the limit and just past
-/// it.
+/// stood, adjusted curves that were missing beside a plain one, curves at the limit and just past
+/// it, and what valuations met.
 #[derive(Default)]
 pub struct Met {
     numbers: BTreeMap<(Kind, u64), u64>,
@@ -378,6 +429,7 @@ pub struct Met {
     missing_beside_plain: u64,
     shown_at_the_limit: u64,
     a_month_past_it: u64,
+    pub valuations: Valuations,
 }
 
 impl Met {
@@ -399,13 +451,17 @@ impl Met {
         if number == TOO_OLD && case.age == case.age_limit.checked_add(1) {
             self.a_month_past_it += 1;
         }
+        if let Question::Value { numbers, .. } = question {
+            self.valuations.count(&case.book, numbers);
+        }
         Ok(answer)
     }
 
     /// Says what was not met and must be for the questions to mean something: by each of these
-    /// kinds but withdrawals ground 16 and, unless it is of pages, 17; of those about adjusted
-    /// curves also one that is there and one that is missing beside a plain one; sums that are shown,
-    /// and 14; withdrawals that are accepted, and 18; and curves at the limit and a month past it.
+    /// kinds but withdrawals ground 16 and, unless it is of pages or values, 17; of those about
+    /// adjusted curves also one that is there and one that is missing beside a plain one; sums
+    /// that are shown, and 14; values that are shown, 14 and 20 to 22; withdrawals that are
+    /// accepted, and 18; and curves at the limit and a month past it.
     pub fn check(&self, kinds: &[Kind]) -> Result<(), String> {
         let adjusted = kinds.iter().any(|kind| kind.which() == Which::Adjusted);
         if adjusted && self.missing_beside_plain == 0 {
@@ -429,9 +485,9 @@ impl Met {
         times.copied().unwrap_or_default()
     }
 
-    /// Says what was not met of markets: factors, sums and pages of each one's curve that were shown
-    /// and that were too old, adjusted curves that the smaller ones do not have, withdrawals of each
-    /// one's curve, and an unknown profile.
+    /// Says what was not met of markets: factors, sums, pages and values of each one's curve that
+    /// were shown and that were too old, adjusted curves that the smaller ones do not have,
+    /// withdrawals of each one's curve, and an unknown profile.
     pub fn check_markets(&self) -> Result<(), String> {
         for market in Market::ALL {
             let due = MARKET_ANSWERS.iter().chain(match market.takes_adjustment {
@@ -455,13 +511,15 @@ impl Met {
 }
 
 /// The answers that must be met on a curve of every market.
-const MARKET_ANSWERS: [(Kind, u64); 7] = [
+const MARKET_ANSWERS: [(Kind, u64); 9] = [
     (Kind::LookUp(Which::Plain), 0),
     (Kind::Sum(Which::Plain), 0),
     (Kind::Page(Which::Plain), 0),
+    (Kind::Value, 0),
     (Kind::LookUp(Which::Plain), TOO_OLD),
     (Kind::Sum(Which::Plain), TOO_OLD),
     (Kind::Page(Which::Plain), TOO_OLD),
+    (Kind::Value, TOO_OLD),
     (Kind::Withdrawal, 0),
 ];
 
@@ -486,13 +544,13 @@ impl fmt::Display for Met {
         }
         for market in Market::ALL {
             let profile = market.profile;
-            let shown = MARKET_ANSWERS[..3].iter();
+            let shown = MARKET_ANSWERS[..4].iter();
             let shown = shown.map(|&(kind, number)| self.where_stood(profile, kind, number));
             let shown: Vec<_> = shown.map(|times| times.to_string()).collect();
             let shown = shown.join(", ");
             writeln!(
                 f,
-                "factors, sums and pages shown of a curve of profile {profile}: {shown}"
+                "factors, sums, pages and values shown of a curve of profile {profile}: {shown}"
             )?;
         }
         write!(

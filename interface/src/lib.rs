@@ -29,6 +29,15 @@ extern "C" {
         call: *const c_uchar,
         call_len: usize,
     ) -> u64;
+    fn tuyqorem_value_after(
+        age_limit: u64,
+        calls: *const c_uchar,
+        calls_len: usize,
+        flows: *const u64,
+        flows_len: usize,
+        out: *mut c_uchar,
+        out_len: usize,
+    ) -> u64;
 }
 
 /// Names the plain curve.
@@ -82,6 +91,22 @@ pub fn answer_after(age_limit: u64, calls: &[u8], call: &[u8]) -> u64 {
             calls.len(),
             call.as_ptr(),
             call.len(),
+        )
+    }
+}
+
+/// Number + 256 × place of the ground, or 0. The flows are years and cents in turn.
+pub fn value_after(age_limit: u64, calls: &[u8], flows: &[u64], out: &mut [u8]) -> u64 {
+    // SAFETY: all slices are valid for their lengths, and a `&mut` overlaps nothing.
+    unsafe {
+        tuyqorem_value_after(
+            age_limit,
+            calls.as_ptr(),
+            calls.len(),
+            flows.as_ptr(),
+            flows.len(),
+            out.as_mut_ptr(),
+            out.len(),
         )
     }
 }

@@ -7,8 +7,9 @@ mod common;
 
 use asked::{band, looked, page, paged, posted, reply, with, PAGE, REPLY};
 use common::journals;
-use interface::compare::{Case, Kind, Met, Question};
+use interface::compare::{Case, Kind, Met, Question, VALUE_LENGTH};
 use interface::{answer_after, page_after, ADJUSTED, PLAIN, SUM};
+use reference::blocks::block;
 use reference::book::LARGEST_AGE_LIMIT;
 use reference::counts::PostCounts;
 use reference::curve::Which;
@@ -19,6 +20,7 @@ use reference::questions::{call, journal, kind, limits_around, page_kind};
 use reference::sheet::Sheet;
 use reference::streams::{low_rates, sheet_bytes, zero_sheet, Random};
 use reference::sums::Wanted;
+use reference::valuation::numbers_of;
 
 const U: u64 = 1_000_000_000;
 
@@ -511,11 +513,17 @@ fn withdrawals_from_one_market_to_another() {
 
 // Beside the second implementation
 
-/// Look-ups of factors and sums and a page of either curve, under the limits around its age.
+/// Look-ups of factors and sums and a page of either curve, and a value, under the limits around
+/// its age.
 fn ask(random: &mut Random, case: &Case, met: &mut Met) {
     let around = case.age().into_iter().flat_map(limits_around);
     for limit in around.chain([LARGEST_AGE_LIMIT]) {
         let case = case.under(limit);
+        let question = Question::Value {
+            numbers: numbers_of(&block(random)),
+            length: VALUE_LENGTH,
+        };
+        met.ask(&case, &question).unwrap();
         for which in Which::ALL {
             let named = page_kind(random, which);
             let length = random.one_of(&[PAGE - 1, PAGE, PAGE + 1]);

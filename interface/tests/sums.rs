@@ -5,7 +5,7 @@
 mod asked;
 mod common;
 
-use asked::{band, looked, page, paged, posted, reply, with, PAGE, REPLY};
+use asked::{band, level, looked, page, paged, posted, reply, steep, with, PAGE, REPLY};
 use common::{cases, journals};
 use interface::compare::{lent, Case, Kind, Met, Question};
 use interface::{answer_after, look_after, ADJUSTED, PLAIN, SUM};
@@ -24,22 +24,6 @@ const OTHERS: [u64; 6] = [0, 4, 1 << 8, 1 << 32, 1 << 63, 0xFFFF_FFFF_FFFF_FFFC]
 
 /// Buffers for look-ups, whose reply has 28 bytes.
 const BUFFERS: [usize; 9] = [0, 1, 12, 20, 26, 27, 28, 29, 60];
-
-/// All rates at 3%, the ultimate forward rate too.
-fn level(month: u16) -> Sheet {
-    Sheet {
-        rates: [3_000; 17],
-        ufr: 3_000,
-        ..zero_sheet(month)
-    }
-}
-
-/// Year 9 is U, and years 10 to 17 have no high rate.
-fn steep() -> Sheet {
-    let mut sheet = zero_sheet(0);
-    sheet.rates[9..].fill(11_111);
-    sheet
-}
 
 /// Low and high of a sum that is shown.
 fn sum(journal: &[u8], curve: u64, year: u64) -> (u64, u64) {

@@ -5,8 +5,9 @@
 mod asked;
 
 use asked::{band, looked, page, paged, posted, reply, with, PAGE, REPLY};
-use interface::compare::{Case, Kind, Met, Question};
+use interface::compare::{Case, Kind, Met, Question, VALUE_LENGTH};
 use interface::{answer_after, ADJUSTED, PLAIN, SUM};
+use reference::blocks::numbers;
 use reference::book::LARGEST_AGE_LIMIT;
 use reference::curve::Which;
 use reference::journal::{look_up, post, turn, withdrawal, NO_RECORD};
@@ -352,7 +353,8 @@ fn any_journal(random: &mut Random) -> Vec<u8> {
     journal
 }
 
-/// Questions of both curves and both amounts, and the answers to records that go by what stands.
+/// Questions of both curves and both amounts, values of lists, and the answers to records that go
+/// by what stands.
 fn questions(random: &mut Random) -> Vec<Question> {
     let mut questions = Vec::new();
     for which in Which::ALL {
@@ -371,6 +373,12 @@ fn questions(random: &mut Random) -> Vec<Question> {
             }
         }
     }
+    questions.extend(
+        [VALUE_LENGTH - 1, VALUE_LENGTH].map(|length| Question::Value {
+            numbers: numbers(random),
+            length,
+        }),
+    );
     let month = random.below(8) as u16;
     let calls = [
         withdrawal(),

@@ -241,7 +241,7 @@ impl fmt::Display for Alone {
 pub const NAMED_ADJUSTMENTS: [i16; 3] = [-500, 0, 500];
 
 /// Number and place of what a tail can be refused on.
-pub const TAIL_GROUNDS: [(u8, u8); 5] = [(1, 0), (2, 26), (2, 27), (3, 26), (3, 27)];
+pub const TAIL_GROUNDS: [(u8, u16); 5] = [(1, 0), (2, 26), (2, 27), (3, 26), (3, 27)];
 
 /// What became of posts by their tails.
 #[derive(Clone, Debug, Default, PartialEq, Eq)]
@@ -249,7 +249,7 @@ pub struct AdjustedPosts {
     by_tail: BTreeMap<Tail, Tally>,
     by_adjustment: BTreeMap<i16, Tally>,
     alone: BTreeMap<Alone, u64>,
-    tails: BTreeMap<(u8, u8), u64>,
+    tails: BTreeMap<(u8, u16), u64>,
 }
 
 impl AdjustedPosts {
@@ -323,7 +323,7 @@ impl AdjustedPosts {
     }
 
     /// The posts whose tail was refused with this number and place.
-    pub fn refused_tails(&self, ground: (u8, u8)) -> u64 {
+    pub fn refused_tails(&self, ground: (u8, u16)) -> u64 {
         self.tails.get(&ground).copied().unwrap_or_default()
     }
 

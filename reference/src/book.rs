@@ -10,6 +10,7 @@ use crate::rates::ZeroRates;
 use crate::refusal::Refusal;
 use crate::sheet::{Sheet, LAST_MONTH};
 use crate::sums::{Sums, Wanted};
+use crate::valuation::{Block, Flow, Valued};
 
 pub use crate::page::PAGE_LENGTH;
 
@@ -226,6 +227,18 @@ impl Book {
             month: shown.month,
             age: shown.age,
             factor: |year| shown.summed.curve.factor(year),
+        })
+    }
+
+    /// What the list is worth on the plain curve, with the curve's dating, or the first of
+    /// grounds 14, 16 and 20 to 22, in this order. It tells no rates, so that a year without them
+    /// has its worth.
+    pub fn value(&self, flows: &[Flow]) -> Result<Valued, Refusal> {
+        let shown = self.shown(Which::Plain)?;
+        Ok(Valued {
+            amount: Block::of(flows)?.worth(&shown.summed.curve),
+            month: shown.month,
+            age: shown.age,
         })
     }
 

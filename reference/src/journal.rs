@@ -9,6 +9,7 @@ use crate::desk::{self, LOOK_UP, POST, TURN};
 use crate::records::{Next, RecordReader};
 use crate::refusal::Refusal;
 use crate::sums::Wanted;
+use crate::valuation::{flows_of, Valued};
 
 /// The kind of a withdrawal, whose record has no body.
 pub const WITHDRAWAL: u8 = 0x57;
@@ -97,6 +98,12 @@ pub fn book_after(age_limit: u64, journal: &[u8]) -> Book {
 pub fn look_up_by(book: &Book, kind: u64, year: u64) -> Result<Found, Refusal> {
     let year = u32::try_from(year).unwrap_or(u32::MAX);
     book.look_up_wanted(Which::named_by(kind), Wanted::named_by(kind), year)
+}
+
+/// What a valuation of the C interface finds on `book`: the numbers are years and cents in turn.
+/// No record asks so either.
+pub fn value_by(book: &Book, numbers: &[u64]) -> Result<Valued, Refusal> {
+    book.value(&flows_of(numbers))
 }
 
 /// The answer to the first record of `call` on `book`: 0 where it is accepted, else the

@@ -1,12 +1,14 @@
-//! Second implementation of the dated curve book of the euro and two smaller markets: sheet reading,
-//! bootstrap from par rates, extrapolation, adjustment, zero rates, annuity sums, the book itself, and the
-//! true curve of order n against which the enclosures, the rates and the sums are checked.
+//! Second implementation of the dated curve book of the euro and two smaller markets: sheet
+//! reading, bootstrap from par rates, extrapolation, adjustment, zero rates, annuity sums, values
+//! of cash flows, the book itself, and the true curve of order n against which the enclosures,
+//! the rates, the sums and the values are checked.
 
 pub mod accepted;
 pub mod adjusted;
 pub mod adjustment;
 pub mod arguments;
 pub mod bigint;
+pub mod blocks;
 pub mod book;
 pub mod bootstrap;
 pub mod convergence;
@@ -15,6 +17,7 @@ pub mod curve;
 pub mod desk;
 pub mod dropped;
 pub mod enclosure;
+pub mod euro;
 pub mod every_ground;
 pub mod extrapolation;
 pub mod forwards;
@@ -33,5 +36,7 @@ pub mod sheet;
 pub mod streams;
 pub mod sums;
 pub mod true_curve;
+pub mod true_value;
+pub mod valuation;
 pub mod weights;
 pub mod withdrawn;

@@ -289,10 +289,10 @@ pub struct DueGround {
     /// The profile byte, 0 where it names no market.
     pub profile: u8,
     pub number: u8,
-    pub places: (u8, u8),
+    pub places: (u16, u16),
 }
 
-const fn due(profile: u8, number: u8, places: (u8, u8)) -> DueGround {
+const fn due(profile: u8, number: u8, places: (u16, u16)) -> DueGround {
     DueGround {
         profile,
         number,
@@ -427,7 +427,7 @@ pub struct MarketPosts {
     /// By profile byte and tail.
     forms: BTreeMap<(u8, Tail), Tally>,
     /// By profile byte, which is 0 where it names no market, number and place.
-    grounds: BTreeMap<(u8, u8, u8), u64>,
+    grounds: BTreeMap<(u8, u8, u16), u64>,
     met: BTreeMap<Meeting, u64>,
 }
 

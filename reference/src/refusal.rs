@@ -6,13 +6,13 @@ use std::fmt;
 #[derive(Clone, Copy, Debug, PartialEq, Eq)]
 pub struct Refusal {
     pub number: u8,
-    pub place: u8,
+    pub place: u16,
 }
 
 impl Refusal {
     /// The refusal on ground `number` at `place`.
     pub fn at(number: u8, place: usize) -> Self {
-        let place = u8::try_from(place).expect("every place is a record or a year up to 150");
+        let place = u16::try_from(place).expect("a record, a year, or an entry up to 1,000");
         Refusal { number, place }
     }
 
@@ -33,7 +33,7 @@ impl Refusal {
 }
 
 /// The grounds in words, that of number n at index n - 1.
-const REASONS: [&str; 19] = [
+const REASONS: [&str; 22] = [
     "the sheet's length is none that its profile has",
     "a record's kind or maturity is not the one due",
     "a number is outside its range",
@@ -53,6 +53,9 @@ const REASONS: [&str; 19] = [
     "no high rate up to 100,000 exists",
     "no post is left to withdraw",
     "the profile is not 1 to 3",
+    "the list of cash flows is empty or has more than 1,000 entries",
+    "the year of a cash flow is not 1 to 150",
+    "the cents of a cash flow are above 1,000,000,000",
 ];
 
 impl fmt::Display for Refusal {

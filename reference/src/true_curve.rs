@@ -35,7 +35,7 @@ const LAST_EXP_TERM: usize = 12;
 const YEARLY_FACTOR_PLACES: usize = 9;
 
 /// Bits of the fixed-point numbers, tried in turn.
-const PRECISIONS: [usize; 5] = [1_024, 2_048, 4_096, 8_192, 16_384];
+pub(crate) const PRECISIONS: [usize; 5] = [1_024, 2_048, 4_096, 8_192, 16_384];
 
 /// Parts of a billionth in which slack is told.
 pub const SLACK_UNIT: i128 = 1_000_000;
@@ -74,7 +74,7 @@ impl Fraction {
 
     /// The sum with a fraction whose denominator is a multiple of this one, over that denominator.
     /// The years' fractions are such, each beside the one before it, so that their sums stay short.
-    fn plus_next(&self, next: &Self) -> Self {
+    pub(crate) fn plus_next(&self, next: &Self) -> Self {
         let more = next.denominator.div_down(&self.denominator);
         assert!(&more * &self.denominator == next.denominator);
         Fraction {
@@ -84,7 +84,7 @@ impl Fraction {
     }
 
     /// The interval of `bits` that holds the fraction.
-    fn interval(&self, bits: usize) -> Interval {
+    pub(crate) fn interval(&self, bits: usize) -> Interval {
         Interval::ratio(&self.numerator, &self.denominator, bits)
     }
 }
@@ -180,7 +180,7 @@ pub fn check_all(
 }
 
 /// The part of the true curve that comes from the quotes.
-struct TrueQuotes {
+pub(crate) struct TrueQuotes {
     market: Market,
     /// True factors of year 1 to the longest maturity that counts, or of adjusted years to the
     /// smoothing year, in billionths.
@@ -200,7 +200,7 @@ struct TrueGap {
 }
 
 impl TrueQuotes {
-    fn of(sheet: &Sheet, order: usize) -> Result<TrueQuotes, NoYearlyFactor> {
+    pub(crate) fn of(sheet: &Sheet, order: usize) -> Result<TrueQuotes, NoYearlyFactor> {
         let market = sheet.market();
         let mut years = ExactYears::new(order);
         let mut gaps = Vec::new();
@@ -240,7 +240,7 @@ impl TrueQuotes {
     }
 
     /// The factors of years 1 to the smoothing year.
-    fn liquid(&self) -> &[Fraction] {
+    pub(crate) fn liquid(&self) -> &[Fraction] {
         &self.factors[..self.market.smoothing_year()]
     }
 
@@ -439,9 +439,14 @@ fn liquid_checks(curve: &Curve, sums: &Sums, quotes: &TrueQuotes) -> Checks {
 
 /// The check of a sum whose true sum is an exact fraction.
 fn exact_sum_check(year: usize, sum: Enclosure, exact: &Fraction) -> SumCheck {
-    let over = |bound: i128| &BigInt::from(bound) * &exact.denominator;
-    let inside = over(sum.low) <= exact.numerator && exact.numerator <= over(sum.high);
+    let inside = exactly_inside(sum, exact);
     SumCheck { year, sum, inside }
+}
+
+/// Whether low ≤ the fraction ≤ high.
+pub(crate) fn exactly_inside(ends: Enclosure, exact: &Fraction) -> bool {
+    let over = |bound: i128| &BigInt::from(bound) * &exact.denominator;
+    over(ends.low) <= exact.numerator && exact.numerator <= over(ends.high)
 }
 
 /// The check of a year whose true factor is an exact fraction.
@@ -487,7 +492,7 @@ fn par(years: usize) -> BigInt {
 }
 
 /// What an interval is above an enclosure's low and below its high.
-fn distances(ends: Enclosure, enclosed: &Interval) -> [Interval; 2] {
+pub(crate) fn distances(ends: Enclosure, enclosed: &Interval) -> [Interval; 2] {
     let bits = enclosed.bits();
     [
         enclosed.sub(&Interval::integer(ends.low, bits)),
@@ -496,7 +501,7 @@ fn distances(ends: Enclosure, enclosed: &Interval) -> [Interval; 2] {
 }
 
 /// Whether neither distance is below 0, or none if undecided.
-fn inside(distances: &[Interval; 2]) -> Option<bool> {
+pub(crate) fn inside(distances: &[Interval; 2]) -> Option<bool> {
     let [below, above] = distances;
     Some(below.not_negative()? & above.not_negative()?)
 }
@@ -563,7 +568,7 @@ fn extrapolated_checks(
 }
 
 /// True factors of the years past the smoothing year, in billionths.
-fn true_extrapolation(
+pub(crate) fn true_extrapolation(
     sheet: &Sheet,
     quotes: &TrueQuotes,
     order: usize,

@@ -45,13 +45,13 @@ fn has_factor(curve: &Curve, year: usize, low: i128, high: i128) {
 }
 
 /// What a post of the bytes is refused on, if it is.
-fn refusal(bytes: &[u8]) -> Option<(u8, u8)> {
+fn refusal(bytes: &[u8]) -> Option<(u8, u16)> {
     let refused = Book::new(LARGEST_AGE_LIMIT).post(bytes).err();
     refused.map(|refusal| (refusal.number, refusal.place))
 }
 
 /// The answer to the zero sheet followed by these bytes.
-fn with_tail(tail: &[u8]) -> Option<(u8, u8)> {
+fn with_tail(tail: &[u8]) -> Option<(u8, u16)> {
     refusal(&[&zero().bytes()[..], tail].concat())
 }
 

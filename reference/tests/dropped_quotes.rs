@@ -41,13 +41,13 @@ fn all_at(rate: i16, volumes: [u32; 5]) -> Numbers {
     with_volumes([rate; 17], volumes)
 }
 
-fn answer(numbers: &Numbers) -> Result<Curve, (u8, u8)> {
+fn answer(numbers: &Numbers) -> Result<Curve, (u8, u16)> {
     let ground = |refusal: Refusal| (refusal.number, refusal.place);
     let sheet = Sheet::read(&numbers.bytes()).map_err(ground)?;
     Curve::plain(&sheet).map_err(ground)
 }
 
-fn refused(numbers: &Numbers, number: u8, place: u8) {
+fn refused(numbers: &Numbers, number: u8, place: u16) {
     assert_eq!(answer(numbers).unwrap_err(), (number, place));
 }
 
@@ -233,7 +233,7 @@ fn a_dropped_quote_is_tested_under_2_and_3() {
     for bits in 1..32 {
         let sheet = with_volumes(RISING, pattern(bits));
         for (maturity, quote, volume) in DROPPABLE {
-            let (record, offset) = (2 + quote as u8, 3 + 4 * quote);
+            let (record, offset) = (2 + quote as u16, 3 + 4 * quote);
             for rate in [-2_001, 12_001, i16::MIN, i16::MAX] {
                 refused(&sheet.clone().with_rate(maturity, rate), 3, record);
             }
@@ -250,7 +250,7 @@ fn a_dropped_quote_is_tested_under_2_and_3() {
             }
             assert_eq!(
                 altered(71 + 6 * volume + 1, 20),
-                Err((2, 19 + volume as u8))
+                Err((2, 19 + volume as u16))
             );
         }
     }
@@ -278,7 +278,7 @@ fn ground_9_names_the_used_maturity_at_which_the_gap_ends() {
             // From 3% no gap of any length reaches a quote of 12%.
             let sheet = all_at(3_000, volumes).with_rate(maturity, 12_000);
             if volumes[volume] > 0 {
-                refused(&sheet, 9, maturity);
+                refused(&sheet, 9, maturity.into());
             } else {
                 accepted(&sheet);
             }
@@ -338,8 +338,14 @@ fn grounds_7_and_9_end_with_the_last_used_quote() {
         counts[usize::from(refusal.number)] += 1;
         // The quote that ends the gap of this year; a gap's 9 names the quote itself.
         let used = traded(&sheet.volumes);
-        let end = *used.iter().find(|&&m| m >= refusal.place).unwrap();
-        assert!(refusal.number == 7 || refusal.place == end, "{sheet:?}");
+        let end = *used
+            .iter()
+            .find(|&&m| u16::from(m) >= refusal.place)
+            .unwrap();
+        assert!(
+            refusal.number == 7 || refusal.place == end.into(),
+            "{sheet:?}"
+        );
         // Later quotes do not matter; without this one, nothing is wrong with the quotes.
         assert_eq!(Curve::plain(&ended_before(&sheet, end + 1)), Err(refusal));
         if let Err(other) = Curve::plain(&ended_before(&sheet, end)) {

@@ -25,7 +25,7 @@ fn factor(numbers: &Numbers, year: usize) -> (i128, i128) {
     (factor.low, factor.high)
 }
 
-fn refused(numbers: &Numbers, number: u8, place: u8) {
+fn refused(numbers: &Numbers, number: u8, place: u16) {
     assert_eq!(curve(numbers).unwrap_err(), Refusal { number, place });
 }
 
@@ -229,7 +229,7 @@ fn forwards_below_zero_round_down_and_up() {
 
 // Grounds of the sheet
 
-fn sheet_refusal(bytes: &[u8]) -> Option<(u8, u8)> {
+fn sheet_refusal(bytes: &[u8]) -> Option<(u8, u16)> {
     Sheet::read(bytes)
         .err()
         .map(|refusal| (refusal.number, refusal.place))
@@ -329,7 +329,7 @@ fn ground_3_names_the_first_record_out_of_range() {
         numbers.volumes[i] = 1_000_000;
         check(numbers.clone(), None);
         numbers.volumes[i] = 1_000_001;
-        check(numbers, Some((3, 19 + i as u8)));
+        check(numbers, Some((3, 19 + i as u16)));
     }
     check(
         Numbers {
@@ -385,7 +385,7 @@ fn ground_4_all_volumes_zero() {
 
 // Book, page and desk
 
-fn refusal(number: u8, place: u8) -> Refusal {
+fn refusal(number: u8, place: u16) -> Refusal {
     Refusal { number, place }
 }
 

@@ -46,13 +46,13 @@ fn read(numbers: &Numbers) -> Sheet {
 }
 
 /// Number and place of the sheet's ground among 19 and 1 to 4.
-fn sheet_refusal(bytes: &[u8]) -> Option<(u8, u8)> {
+fn sheet_refusal(bytes: &[u8]) -> Option<(u8, u16)> {
     let refusal = Sheet::read(bytes).err()?;
     Some((refusal.number, refusal.place))
 }
 
 /// Number and place of any ground on a fresh book.
-fn refusal(numbers: &Numbers) -> Option<(u8, u8)> {
+fn refusal(numbers: &Numbers) -> Option<(u8, u16)> {
     let posted = Book::new(LARGEST_AGE_LIMIT).post(&numbers.bytes());
     posted.err().map(|refusal| (refusal.number, refusal.place))
 }
@@ -269,12 +269,12 @@ fn ground_2_names_the_first_record_of_other_kind_or_maturity() {
                 // The euro's last record may be of either kind, and is then out of range.
                 let expected = match (byte == bytes[start], profile, place == last, byte) {
                     (true, ..) => None,
-                    (_, 1, true, 0x07) => Some((3, place as u8)),
-                    _ => Some((2, place as u8)),
+                    (_, 1, true, 0x07) => Some((3, place as u16)),
+                    _ => Some((2, place as u16)),
                 };
                 assert_eq!(with(start, byte), expected, "profile {profile}");
                 if has_maturity && byte != bytes[start + 1] {
-                    assert_eq!(with(start + 1, byte), Some((2, place as u8)));
+                    assert_eq!(with(start + 1, byte), Some((2, place as u16)));
                 }
             }
         }
@@ -293,7 +293,7 @@ fn ground_2_comes_before_3_and_names_the_first() {
         let starts = records(profile);
         let limit = 4 + quotes + volumes;
         bytes[starts[limit - 1].0] = 0x09;
-        assert_eq!(sheet_refusal(&bytes), Some((2, limit as u8)));
+        assert_eq!(sheet_refusal(&bytes), Some((2, limit as u16)));
         bytes[starts[2].0 + 1] = 0x09;
         assert_eq!(sheet_refusal(&bytes), Some((2, 3)));
     }
@@ -311,7 +311,7 @@ fn ground_3_names_the_first_record_out_of_range() {
                 (most + 1, false),
             ] {
                 if number >= 0 || least < 0 {
-                    let expected = (!inside).then_some((3, place as u8));
+                    let expected = (!inside).then_some((3, place as u16));
                     assert_eq!(sheet_refusal(&of_profile(with(number))), expected);
                 }
             }
@@ -332,7 +332,7 @@ fn ground_3_names_the_first_record_out_of_range() {
                 sheet_refusal(&of_profile(numbers))
             };
             assert_eq!(with_volume(1_000_000), None);
-            assert_eq!(with_volume(1_000_001), Some((3, (3 + quotes + i) as u8)));
+            assert_eq!(with_volume(1_000_001), Some((3, (3 + quotes + i) as u16)));
         }
         let behind = 3 + quotes + volumes;
         let ufr = |ufr| with_ufr(ufr as u16, zero());
@@ -642,7 +642,7 @@ fn what_a_market_does_not_quote_is_not_tried() {
     ] {
         for (profile, ..) in PROFILES {
             let numbers = flat(3_000).with_rate(maturity, 12_000);
-            let expected = refused.contains(&profile).then_some((9, maturity));
+            let expected = refused.contains(&profile).then_some((9, maturity.into()));
             assert_eq!(refusal(&numbers.of_profile(profile)), expected);
         }
     }

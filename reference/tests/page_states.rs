@@ -6,7 +6,7 @@ mod common;
 
 use std::cell::RefCell;
 
-use common::{flat, november, zero, Numbers};
+use common::{flat, november, steep, zero, Numbers};
 use reference::book::{Book, LARGEST_AGE_LIMIT};
 use reference::curve::{Curve, Which};
 use reference::enclosure::Enclosure;
@@ -62,13 +62,6 @@ fn page_in_digits(month: u16, age: u16, factor: impl Fn(usize) -> Enclosure) -> 
     (0..1_505)
         .map(|at| u8::from_str_radix(&digits[2 * at..2 * at + 2], 16).expect("two digits"))
         .collect()
-}
-
-/// Low rates to year 9 and one high rate from year 10 on, whose factor is next to 0.
-fn steep(ufr: u16) -> Numbers {
-    let mut numbers = Numbers { ufr, ..zero() };
-    numbers.rates[9..].fill(11_111);
-    numbers
 }
 
 fn dated(month: u16, numbers: Numbers) -> Vec<u8> {

@@ -29,7 +29,7 @@ fn convergence(rate_20: i16, x: u16) -> i128 {
     read(&zero().with_rate(20, rate_20).with_x(x)).convergence()
 }
 
-fn refusal(bytes: &[u8]) -> Option<(u8, u8)> {
+fn refusal(bytes: &[u8]) -> Option<(u8, u16)> {
     let refusal: Option<Refusal> = Sheet::read(bytes).err();
     refusal.map(|refusal| (refusal.number, refusal.place))
 }

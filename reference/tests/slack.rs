@@ -554,7 +554,7 @@ fn traded(sheet: &Sheet) -> Vec<u8> {
 }
 
 /// Plain and adjusted curve with another logarithm and growth.
-fn modelled(sheet: &Sheet, series: Series) -> Result<Vec<Model>, (u8, u8)> {
+fn modelled(sheet: &Sheet, series: Series) -> Result<Vec<Model>, (u8, u16)> {
     let later = traded(sheet);
     match sheet.adjustment {
         None => Ok(vec![Model::with(sheet, &later, series)?]),

@@ -4,7 +4,7 @@
 
 mod common;
 
-use common::{flat, november, zero, Numbers};
+use common::{book_of, flat, level, november, read, steep, zero, Numbers};
 use reference::accepted::Count;
 use reference::bigint::BigInt;
 use reference::book::{Book, Found, LARGEST_AGE_LIMIT, PAGE_LENGTH};
@@ -21,22 +21,6 @@ use reference::sheet::Sheet;
 use reference::streams::Random;
 use reference::sums::{kind_of, Sums, Wanted};
 use reference::true_curve::check_all;
-
-/// The flat sheet whose ultimate forward rate is the quotes' own, so that every year's is.
-fn level() -> Numbers {
-    Numbers {
-        ufr: 3_000,
-        ..flat(3_000)
-    }
-}
-
-/// Year 9 is U, year 10 is U / 111,111: years 10 to 17 have no high rate. With the ultimate forward
-/// rate at its highest the last lows are 0, and their years have none either.
-fn steep(ufr: u16) -> Numbers {
-    let mut numbers = Numbers { ufr, ..zero() };
-    numbers.rates[9..].fill(11_111);
-    numbers
-}
 
 /// Sheets of every sort that is accepted.
 fn sheets() -> Vec<Numbers> {
@@ -56,18 +40,8 @@ fn sheets() -> Vec<Numbers> {
     ]
 }
 
-fn read(numbers: &Numbers) -> Sheet {
-    Sheet::read(&numbers.bytes()).unwrap()
-}
-
 fn curves(numbers: &Numbers) -> Curves {
     Curves::of(&read(numbers)).unwrap()
-}
-
-fn book_of(age_limit: u64, numbers: &Numbers) -> Book {
-    let mut book = Book::new(age_limit);
-    assert_eq!(book.post(&numbers.bytes()), Ok(numbers.month));
-    book
 }
 
 fn sum(book: &Book, which: Which, year: u32) -> Result<Found, Refusal> {

@@ -3,7 +3,7 @@
 
 mod common;
 
-use common::{flat, november, zero, Numbers};
+use common::{book_of, flat, november, read, steep, zero, Numbers};
 use reference::bigint::BigInt;
 use reference::book::{Book, LARGEST_AGE_LIMIT, PAGE_LENGTH};
 use reference::curve::{Curve, Which};
@@ -77,20 +77,6 @@ fn curve(numbers: &Numbers) -> Curve {
 fn rates(numbers: &Numbers, year: usize) -> Option<(i32, i32)> {
     let factor = curve(numbers).factor(year);
     ZeroRates::of(factor, year).map(|rates| (rates.low, rates.high))
-}
-
-/// Low rates to year 9 and one high rate from year 10 on, whose factor is next to 0:
-/// U / 111,111 with a low of 9,000.
-fn steep(ufr: u16) -> Numbers {
-    let mut numbers = Numbers { ufr, ..zero() };
-    numbers.rates[9..].fill(11_111);
-    numbers
-}
-
-fn book_of(age_limit: u64, numbers: &Numbers) -> Book {
-    let mut book = Book::new(age_limit);
-    assert_eq!(book.post(&numbers.bytes()), Ok(numbers.month));
-    book
 }
 
 fn desk(input: &[u8]) -> String {
@@ -551,10 +537,6 @@ fn assert_holds(sheet: &Sheet, orders: std::ops::RangeInclusive<usize>) -> usize
         assert!(checked.map(|check| check.year).eq(with_rates.clone()));
     }
     with_rates.len()
-}
-
-fn read(numbers: &Numbers) -> Sheet {
-    Sheet::read(&numbers.bytes()).unwrap()
 }
 
 #[test]

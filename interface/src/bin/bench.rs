@@ -1,19 +1,21 @@
-//! Times posts and a page through the C interface against the second implementation, on
-//! the same journal, in turn, in one run on one machine: bench [POSTS]. Then the same posts
-//! with an X, whose weights are worked anew in each, with two dropped quotes, with an
-//! adjustment, whose second curve is paged, and of the smaller markets. Then short journals of posts, and the same with a
-//! withdrawal in place of every third, which tells what a withdrawal costs beside a post. Then pages
-//! of one post's curve, and look-ups of its factors and of its sums.
+//! Times posts and a page through the C interface against the second implementation, on the same
+//! journal, in turn, in one run on one machine: bench [POSTS]. Then the same posts with an X,
+//! whose weights are worked anew in each, with two dropped quotes, with an adjustment, whose
+//! second curve is paged, and of the smaller markets. Then short journals of posts, and the same
+//! with a withdrawal in place of every third, which tells what a withdrawal costs beside a post.
+//! Then pages of one post's curve, look-ups of its factors and of its sums, and valuations of
+//! 1,000 cash flows beside look-ups of all its factors.
 
 use std::time::{Duration, Instant};
 
-use interface::compare::LOOK_UP_LENGTH;
-use interface::{look_after, page_after, ADJUSTED, PLAIN, SUM};
+use interface::compare::{LOOK_UP_LENGTH, VALUE_LENGTH};
+use interface::{look_after, page_after, value_after, ADJUSTED, PLAIN, SUM};
 use reference::book::{LARGEST_AGE_LIMIT, PAGE_LENGTH};
-use reference::curve::Which;
-use reference::journal::{book_after, look_up_by};
+use reference::curve::{Which, YEARS};
+use reference::journal::{book_after, look_up_by, value_by};
 use reference::market::Market;
-use reference::streams::{accepted_posts, posts_and_withdrawals, Measured};
+use reference::streams::{accepted_posts, posts_and_withdrawals, Measured, Random};
+use reference::valuation::{MOST_CENTS, MOST_FLOWS};
 
 /// The fastest of these runs counts, as the least disturbed one.
 const RUNS: usize = 7;
@@ -29,6 +31,11 @@ const PAGES: usize = 50_000;
 /// Look-ups timed, each by itself, and their years: the rates of a late year take more steps.
 const LOOK_UPS: usize = 20_000;
 const LOOK_UP_YEARS: [u64; 3] = [1, 20, 150];
+
+/// Valuations timed, each by itself, as often as look-ups of every year together. A valuation of
+/// the longest list may take so many times as long as these.
+const VALUATIONS: usize = 300;
+const MOST_TIMES: f64 = 5.0;
 
 fn main() {
     let posts = std::env::args()
@@ -56,6 +63,7 @@ fn main() {
     for year in LOOK_UP_YEARS {
         time_look_ups(&one_post, year);
     }
+    time_values(&one_post);
 }
 
 /// What a journal and a page took: in the proved library, and in the second implementation.
@@ -188,6 +196,58 @@ fn time_look_ups(journal: &[u8], year: u64) {
         sum / factor,
         plain_sum / plain_factor
     );
+}
+
+/// The longest list and all factors by turns. The journal's time is taken off here too: of a
+/// valuation that of the same call without a cash flow, which is refused as soon as the journal
+/// is replayed.
+fn time_values(journal: &[u8]) {
+    let book = book_after(LARGEST_AGE_LIMIT, journal);
+    let flows = any_flows();
+    let mut out = [0; VALUE_LENGTH];
+    let mut value = |flows: &[u64]| value_after(LARGEST_AGE_LIMIT, journal, flows, &mut out);
+    let mut out = [0; LOOK_UP_LENGTH];
+    let mut look = |kind, year| look_after(LARGEST_AGE_LIMIT, journal, kind, year, &mut out);
+    let [mut values, mut no_values, mut looks, mut no_looks] = [vec![], vec![], vec![], vec![]];
+    let (mut plain_values, mut plain_looks) = (vec![], vec![]);
+    for _ in 0..VALUATIONS {
+        values.push(time(|| value(&flows)));
+        no_values.push(time(|| value(&[])));
+        looks.push(time_years(|year| look(PLAIN, year)));
+        no_looks.push(time_years(|year| look(ADJUSTED, year)));
+        plain_values.push(time(|| value_by(&book, &flows)));
+        plain_looks.push(time_years(|year| look_up_by(&book, PLAIN, year)));
+    }
+    let proved = (
+        usual(values) - usual(no_values),
+        usual(looks) - usual(no_looks),
+    );
+    for (name, (value, looks)) in [
+        ("proved", proved),
+        ("plain Rust", (usual(plain_values), usual(plain_looks))),
+    ] {
+        println!(
+            "{name}: a valuation of {MOST_FLOWS} cash flows takes {value:.2} µs, look-ups of \
+             {YEARS} factors {looks:.2} µs; ratio {:.3}, of at most {MOST_TIMES}",
+            value / looks
+        );
+    }
+}
+
+/// The numbers of the longest list, of any years and cents.
+fn any_flows() -> Vec<u64> {
+    let mut random = Random::new(SEED);
+    let mut flow = |_| [1 + random.below(YEARS as u64), random.below(MOST_CENTS + 1)];
+    (0..MOST_FLOWS).flat_map(&mut flow).collect()
+}
+
+/// The time of a call for every year, together.
+fn time_years<A>(mut call: impl FnMut(u64) -> A) -> Duration {
+    time(|| {
+        for year in 1..=YEARS as u64 {
+            std::hint::black_box(call(year));
+        }
+    })
 }
 
 fn time<A>(call: impl FnOnce() -> A) -> Duration {

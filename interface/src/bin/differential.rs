@@ -1,12 +1,14 @@
 //! Asks the proved library and the second implementation the same questions after seeded
-//! journals, each under several age limits and about factors and sums of both curves, which are
-//! named by numbers of every sort, and compares answers and buffers. It prints how often each kind
-//! of question met each ground, what became of posts with dropped quotes or adjustments, how many
-//! accepted ones slack at known values would change and what the journals' withdrawals met, and
-//! fails where one never met 16, where one that asks for rates never met 17, where no adjusted curve
-//! was shown or missing, where no sum was shown or refused with 14, where no sheet was accepted with
-//! some gap that runs on over a dropped maturity, or with some tail, where slack would change none
-//! in some way, where some profile was not accepted, not shown in some way or did not meet one of its
+//! journals, each under several age limits, about factors and sums of both curves, which are
+//! named by numbers of every sort, and about values of lists of cash flows, good and bad ones,
+//! and compares answers and buffers. It prints how often each kind of question met each ground,
+//! what became of posts with dropped quotes or adjustments, how many accepted ones slack at known
+//! values would change and what the journals' withdrawals and the valuations met, and fails where
+//! one never met 16, where one that asks for rates never met 17, where no adjusted curve was
+//! shown or missing, where no sum was shown or refused with 14, where no value was shown or one
+//! of its grounds or some sort of list was not met, where no sheet was accepted with some gap
+//! that runs on over a dropped maturity, or with some tail, where slack would change none in some
+//! way, where some profile was not accepted, not shown in some way or did not meet one of its
 //! grounds, or where some sort of withdrawal was not met.
 //!
 //!     differential [SEED [POSTS]]
@@ -15,12 +17,14 @@ use std::collections::BTreeSet;
 use std::process::ExitCode;
 
 use interface::compare::{Case, Kind, Met, Question};
+use reference::blocks::{block, numbers};
 use reference::counts::PostCounts;
 use reference::curve::Which;
 use reference::journal::calls;
 use reference::questions::{age_limits, call, journal, kind, limits_around, page_kind};
 use reference::streams::Random;
 use reference::sums::Wanted;
+use reference::valuation::numbers_of;
 use reference::withdrawn::Withdrawals;
 
 /// Buffers for look-ups, whose reply has 28 bytes.
@@ -32,6 +36,9 @@ const PAGE_BUFFERS: [usize; 12] = [
     0, 1_504, 1_505, 1_506, 1_507, 1_510, 1_514, 1_515, 1_600, 2_000, 3_010, 4_096,
 ];
 
+/// Buffers for valuations, whose reply has 20 bytes; a look-up's would fit in the last two.
+const VALUE_BUFFERS: [usize; 9] = [0, 1, 16, 19, 20, 20, 21, 28, 64];
+
 /// Posts between two lines that tell how far the run is.
 const PROGRESS: u64 = 20_000;
 
@@ -42,7 +49,8 @@ fn main() -> ExitCode {
     };
     let mut seen = Seen::default();
     let compared = compare(seed, posts, &mut seen);
-    println!("{}\n{}\n{}", seen.met, seen.counts, seen.withdrawals);
+    println!("{}\n{}", seen.met, seen.met.valuations);
+    println!("{}\n{}", seen.counts, seen.withdrawals);
     let checked = seen.check();
     match compared.and_then(|done| checked.map(|()| done)) {
         Ok((journals, posts)) => {
@@ -74,6 +82,7 @@ impl Seen {
     fn check(&self) -> Result<(), String> {
         self.met.check(&Kind::ALL)?;
         self.met.check_markets()?;
+        self.met.valuations.check()?;
         self.counts.check()?;
         self.withdrawals.check()
     }
@@ -133,7 +142,8 @@ fn ask(random: &mut Random, journal: &[u8], met: &mut Met) -> Result<(), String>
     Ok(())
 }
 
-/// The same of each curve, and the answers to two records.
+/// The same of each curve, the answers to two records, and values of a list that no ground is
+/// against and of two of every sort.
 fn questions(random: &mut Random) -> Vec<Question> {
     let mut questions = Vec::new();
     for which in Which::ALL {
@@ -143,6 +153,11 @@ fn questions(random: &mut Random) -> Vec<Question> {
         let call = call(random);
         questions.push(Question::Answer { call });
     }
+    let lists = [numbers_of(&block(random)), numbers(random), numbers(random)];
+    questions.extend(lists.map(|numbers| Question::Value {
+        numbers,
+        length: random.one_of(&VALUE_BUFFERS),
+    }));
     questions
 }
 

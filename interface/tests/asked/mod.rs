@@ -1,16 +1,35 @@
-//! Look-ups and pages of the proved library, asked for by hand after a journal.
+//! Look-ups and pages of the proved library, asked for by hand after a journal, and sheets to
+//! post.
 
 use interface::{look_after, page_after};
 use reference::book::LARGEST_AGE_LIMIT;
 use reference::journal::post;
 use reference::sheet::Sheet;
-use reference::streams::sheet_bytes;
+use reference::streams::{sheet_bytes, zero_sheet};
 
 /// The length of a page.
 pub const PAGE: usize = 1_505;
 
 /// The length of a look-up's reply.
 pub const REPLY: usize = 28;
+
+/// All rates at 3%, the ultimate forward rate too.
+#[allow(dead_code)]
+pub fn level(month: u16) -> Sheet {
+    Sheet {
+        rates: [3_000; 17],
+        ufr: 3_000,
+        ..zero_sheet(month)
+    }
+}
+
+/// Year 9 is U, and years 10 to 17 have no high rate.
+#[allow(dead_code)]
+pub fn steep() -> Sheet {
+    let mut sheet = zero_sheet(0);
+    sheet.rates[9..].fill(11_111);
+    sheet
+}
 
 /// The record of the sheet's post.
 pub fn posted(sheet: &Sheet) -> Vec<u8> {

@@ -10,6 +10,7 @@ use reference::arguments::{age_limit, usage_error};
 use reference::book::{Book, Found};
 use reference::curve::Which;
 use reference::enclosure::{div_down, div_up};
+use reference::euro::euro;
 use reference::journal::book_after;
 use reference::sums::Wanted;
 
@@ -48,9 +49,4 @@ fn words(found: &Found) -> String {
         "{low} {high} worth {} to {} month {} age {}",
         worth[0], worth[1], found.month, found.age
     )
-}
-
-/// Of whole cents from 0 up.
-fn euro(cents: i128) -> String {
-    format!("{}.{:02}", cents / 100, cents % 100)
 }

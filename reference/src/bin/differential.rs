@@ -1,12 +1,13 @@
-//! Runs another desk program on seeded record streams and compares its lines, byte
-//! for byte, with this implementation's; fails where no look-up was turned down on 17, where no
-//! sheet was accepted with some gap that runs on over a dropped maturity, where some tail of a
-//! sheet, or a refusal for the adjusted curve alone, was not met, where no accepted post shows
-//! that nothing is added to the high of a known logarithm or growth, or where some profile was not
-//! accepted in some form or did not meet one of its grounds. Then checks on sampled sheets of all
-//! markets that the bands of the plain and the adjusted curve hold their true factors of orders 0
-//! to 3, that the true curves' own rates lie between the rates, and that their sums of years 1 to
-//! each year lie between the ends of the sums; some of these must meet a known value.
+//! Runs another desk program on seeded record streams and compares its lines, byte for byte, with
+//! this implementation's; fails where no look-up was turned down on 17, where no sheet was
+//! accepted with some gap that runs on over a dropped maturity, where some tail of a sheet, or a
+//! refusal for the adjusted curve alone, was not met, where no accepted post shows that nothing
+//! is added to the high of a known logarithm or growth, or where some profile was not accepted in
+//! some form or did not meet one of its grounds. Then checks on sampled sheets of all markets
+//! that the bands of the plain and the adjusted curve hold their true factors of orders 0 to 3,
+//! that the true curves' own rates lie between the rates, that their sums of years 1 to each year
+//! lie between the ends of the sums, and that the true plain curve's values of lists of cash
+//! flows lie between the book's; some of these sheets must meet a known value.
 //!
 //!     differential DESK [SEED [POSTS [SAMPLES]]]
 
@@ -16,6 +17,7 @@ use std::io::Write;
 use std::process::{Command, ExitCode, Stdio};
 
 use reference::adjusted::adjusted_sheet;
+use reference::blocks::block;
 use reference::book::Book;
 use reference::counts::PostCounts;
 use reference::curve::{Curve, Curves, Which, YEARS};
@@ -30,6 +32,8 @@ use reference::sheet::Sheet;
 use reference::streams::{sheet, sheet_bytes, steep_sheet, stream, worked, Random};
 use reference::sums::{Sums, Wanted};
 use reference::true_curve::check_all;
+use reference::true_value::check_values;
+use reference::valuation::Flow;
 
 /// Records in a stream; about four in ten are posts.
 const RECORDS: usize = 1_000;
@@ -38,6 +42,9 @@ const ORDERS: usize = 4;
 /// Of so many samples one is a steep sheet, in which some years have no high rate, two have
 /// dropped quotes, three an adjustment, two meet a known value and two are of the smaller markets.
 const ROUND: u64 = 12;
+
+/// Lists of cash flows that are valued on each sampled sheet.
+const LISTS: usize = 10;
 
 /// So many samples have all of these among them.
 const ENOUGH: u64 = 10;
@@ -62,6 +69,8 @@ struct Checked {
     /// sheet's limit, which is the factors' alone.
     sums: u64,
     wide_sums: u64,
+    /// Values, each against the true ones of all orders.
+    values: u64,
     counts: PostCounts,
     /// Sheets by profile.
     by_profile: BTreeMap<u8, u64>,
@@ -92,7 +101,8 @@ impl fmt::Display for Checked {
             "the plain curves of {} sheets, {} with dropped quotes, {} of profile 2 and {} of \
              profile 3, and {} adjusted ones hold their true factors of orders 0 to 3, and {} of \
              their years the true rates, {} have none; {} sums hold the true ones, {} of them wider \
-             than the limit; slack at known values would change {} sheets of the euro",
+             than the limit, and {} values of cash flows theirs; slack at known values would change \
+             {} sheets of the euro",
             self.sheets,
             self.counts.dropped.all.accepted,
             self.of(Market::TO_10),
@@ -102,6 +112,7 @@ impl fmt::Display for Checked {
             self.years_without,
             self.sums,
             self.wide_sums,
+            self.values,
             self.counts.known.all()
         )
     }
@@ -222,7 +233,8 @@ fn difference(seed: u64, found: &[u8], expected: &[u8]) -> String {
 }
 
 fn check_truth(seed: u64, samples: u64) -> Result<Checked, String> {
-    let mut random = Random::new(seed);
+    // Lists have random numbers of their own: the sheets are then those of the seed alone.
+    let (mut random, mut of_lists) = (Random::new(seed), Random::new(!seed));
     let mut checked = Checked::default();
     while checked.sheets < samples {
         let sheet = match checked.sheets % ROUND {
@@ -235,7 +247,8 @@ fn check_truth(seed: u64, samples: u64) -> Result<Checked, String> {
             _ => sheet(&mut random, 0),
         };
         if let Some(curves) = worked(&sheet) {
-            check_sheet(&sheet, &curves, &mut checked)?;
+            let lists: [_; LISTS] = std::array::from_fn(|_| block(&mut of_lists));
+            check_sheet(&sheet, &curves, &lists, &mut checked)?;
         }
     }
     if samples >= ENOUGH {
@@ -244,7 +257,12 @@ fn check_truth(seed: u64, samples: u64) -> Result<Checked, String> {
     Ok(checked)
 }
 
-fn check_sheet(sheet: &Sheet, curves: &Curves, checked: &mut Checked) -> Result<(), String> {
+fn check_sheet(
+    sheet: &Sheet,
+    curves: &Curves,
+    lists: &[Vec<Flow>],
+    checked: &mut Checked,
+) -> Result<(), String> {
     let mut book = Book::new(0);
     book.post(&sheet_bytes(sheet))
         .map_err(|refusal| format!("{refusal}: {sheet:?}"))?;
@@ -255,6 +273,8 @@ fn check_sheet(sheet: &Sheet, curves: &Curves, checked: &mut Checked) -> Result<
             check_held(&book, which, &sums).map_err(|text| format!("{text}: {sheet:?}"))?;
         }
     }
+    check_lists(sheet, &book, lists)?;
+    checked.values += lists.len() as u64;
     checked.adjusted += u64::from(curves.adjusted.is_some());
     checked.counts.count(&sheet_bytes(sheet), 0);
     let profile = sheet.market().profile;
@@ -263,7 +283,8 @@ fn check_sheet(sheet: &Sheet, curves: &Curves, checked: &mut Checked) -> Result<
     if checked.sheets.is_multiple_of(50) {
         let (sheets, adjusted) = (checked.sheets, checked.adjusted);
         eprintln!(
-            "{sheets} sheets, {adjusted} of them adjusted, hold their true factors, rates and sums"
+            "{sheets} sheets, {adjusted} of them adjusted, hold their true factors, rates, sums and \
+             values"
         );
     }
     Ok(())
@@ -292,6 +313,22 @@ fn check_curve(
     let with_rates = (1..=YEARS).filter(with_rates).count();
     checked.years_with_rates += with_rates as u64;
     checked.years_without += (YEARS - with_rates) as u64;
+    Ok(())
+}
+
+/// Whether the book's values of the lists hold those of the true plain curve.
+fn check_lists(sheet: &Sheet, book: &Book, lists: &[Vec<Flow>]) -> Result<(), String> {
+    let mut values = Vec::new();
+    for flows in lists {
+        let valued = book.value(flows).map_err(|refusal| refusal.to_string())?;
+        values.push((&flows[..], valued.amount));
+    }
+    for order in 0..ORDERS {
+        let inside = check_values(sheet, &values, order).map_err(|e| format!("{e:?}"))?;
+        if let Some(at) = inside.iter().position(|inside| !inside) {
+            return Err(format!("order {order}, {:?}: {sheet:?}", values[at]));
+        }
+    }
     Ok(())
 }
 

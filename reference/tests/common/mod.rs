@@ -1,4 +1,7 @@
-//! Sheets for the tests, written byte by byte as the sheet's layout says.
+//! Sheets for the tests, written byte by byte as the sheet's layout says, and books that took one.
+
+use reference::book::Book;
+use reference::sheet::Sheet;
 
 /// Quoted maturities in their order.
 pub const MATURITIES: [u8; 17] = [1, 2, 3, 4, 5, 6, 7, 8, 9, 10, 12, 15, 20, 25, 30, 40, 50];
@@ -40,6 +43,24 @@ pub fn flat(rate: i16) -> Numbers {
         rates: [rate; 17],
         ..zero()
     }
+}
+
+/// The flat sheet whose ultimate forward rate is the quotes' own, so that every year's is.
+#[allow(dead_code)]
+pub fn level() -> Numbers {
+    Numbers {
+        ufr: 3_000,
+        ..flat(3_000)
+    }
+}
+
+/// Year 9 is U, year 10 is U / 111,111: years 10 to 17 have no high rate. With the ultimate
+/// forward rate at its highest the last lows are 0, and their years have none either.
+#[allow(dead_code)]
+pub fn steep(ufr: u16) -> Numbers {
+    let mut numbers = Numbers { ufr, ..zero() };
+    numbers.rates[9..].fill(11_111);
+    numbers
 }
 
 /// A sheet of low rates, in the shape of the end of November 2020: the 20-year rate is 14.
@@ -136,4 +157,18 @@ impl Numbers {
         }
         bytes
     }
+}
+
+/// The sheet as it is read.
+#[allow(dead_code)]
+pub fn read(numbers: &Numbers) -> Sheet {
+    Sheet::read(&numbers.bytes()).expect("a sheet")
+}
+
+/// A book with this age limit whose one call is the sheet's post.
+#[allow(dead_code)]
+pub fn book_of(age_limit: u64, numbers: &Numbers) -> Book {
+    let mut book = Book::new(age_limit);
+    assert_eq!(book.post(&numbers.bytes()), Ok(numbers.month));
+    book
 }

@@ -19,7 +19,7 @@ const PAR: i128 = 100_000 * U;
 const GAP_ENDS: [usize; 5] = [20, 25, 30, 40, 50];
 
 /// Number and place.
-pub type Ground = (u8, u8);
+pub type Ground = (u8, u16);
 
 /// The logarithm G and the growth E that a curve is worked with. (The weights of a sheet with an X
 /// are always those of the rule: no growth in them is known.)
@@ -90,7 +90,7 @@ impl Model {
                 (years.lows[t - 1], years.highs[t - 1]) = step(factor, (more, more), series);
             }
             if years.highs[t - 1] > 2 * U {
-                return Err((8, t as u8));
+                return Err((8, t as u16));
             }
         }
         g[0] = (g[0].0 + more, g[0].1 + more);
@@ -158,7 +158,7 @@ impl Model {
     }
 
     fn push(&mut self, low: i128, high: i128) -> Result<(), Ground> {
-        let year = self.lows.len() as u8 + 1;
+        let year = self.lows.len() as u16 + 1;
         if low < 1 {
             return Err((7, year));
         }
@@ -187,7 +187,7 @@ impl Model {
         let not_above = |x| self.value_high(years, r, x) <= PAR;
         let not_below = |x| self.value_low(years, r, x) >= PAR;
         if !not_above(800_000_000) || !not_below(1_100_000_000) {
-            return Err((9, end as u8));
+            return Err((9, end as u16));
         }
         let (low_x, _) = halve(not_above);
         let (_, high_x) = halve(|x| !not_below(x));
@@ -246,14 +246,14 @@ impl Model {
             let f = (low(k.low).min(low(k.high)), high(k.low).max(high(k.high)));
             let (low, high) = step((self.lows[year - 2], self.highs[year - 2]), f, series);
             if high > 2 * U {
-                return Err((8, year as u8));
+                return Err((8, year as u16));
             }
             self.lows.push(low);
             self.highs.push(high);
         }
         let wide = |&i: &usize| self.highs[i] - self.lows[i] > i128::from(sheet.limit);
         match (0..150).find(wide) {
-            Some(i) => Err((10, 1 + i as u8)),
+            Some(i) => Err((10, 1 + i as u16)),
             None => Ok(self),
         }
     }
