@@ -561,8 +561,8 @@ fn value_block(book: Book, block: Block) -> Valued
     requires { ⌜ OfList block ⌝ }
     ensures { λ r. ⌜ ValuesBlock (asBook book) block r ⌝ }
 {
-    let plain = book.standing.summed.curves.plain;
-    value_in(book.standing.has, plain, book.told, book.age_limit, block)
+    let curve = book.standing.summed.curves.plain;
+    value_in(book.standing.has, curve, book.told, book.age_limit, block)
 }
 
 // Its list, a slice of structs, is walked by hand.

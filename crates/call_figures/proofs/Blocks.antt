@@ -1,14 +1,20 @@
 -- Values of blocks, by computation: on a level curve, and on one with an adjustment; the grounds with their places; and values that demand 3
 -- refuses.
-use mathlib.Core.Path.{_≡_, refl, ap}
+use mathlib.Core.Path.{_≡_, refl, ap, sym, subst}
 use mathlib.Core.List.{List, [], _∷_, map}
 use Prim.Native.Nat.{ℕ}
+use native.Mathlib.Omega.{arith}
 use lib.ListN.{replicate}
+use Rattle.method.specs.Units.{plain, Pair, pair}
 use Rattle.method.specs.Grounds.{numberOf, placeOf, Outcome, refused, done}
+use Rattle.method.proofs.Outcome.{done-injective, refused-not-done}
 use Rattle.valuation.specs.Block.{Flow, flowsChecked, blockChecked, blockSum, valueBy}
-use Rattle.ledger.specs.Answers.{Value}
+use Rattle.valuation.specs.Meaning.{sumTo, costOf, Valued, BlockTells}
+use Rattle.ledger.specs.Answers.{Value, dated}
 use Rattle.ledger.specs.Book.{Book, fresh, value, valueIn}
 use Rattle.ledger.specs.Calls.{postOf, turnTo, withdrawal, run}
+use Rattle.ledger.specs.Count.{Count, monthOf}
+use Rattle.ledger.specs.Tells.{bandOf, datedAt, ValueTells}
 use Rattle.call_figures.proofs.Days.{opens}
 use Rattle.call_figures.proofs.Annuities.{level, raised}
 
@@ -27,8 +33,15 @@ pensions = flow 1 100 ∷ flow 2 100 ∷ flow 20 100_000 ∷ []
 spread : List Flow
 spread = flow 20 60_000 ∷ flow 2 100 ∷ flow 20 40_000 ∷ flow 1 100 ∷ []
 
+-- of the last year, twice; and as many cents as the unit has parts, so that the value is the factor
+twice : List Flow
+twice = flow 150 1 ∷ flow 150 1 ∷ []
+
+whole : List Flow
+whole = flow 20 1_000_000_000 ∷ []
+
 blocks-open : ℕ
-unfolding opens level raised flow valued pensions spread flowsChecked blockChecked blockSum valueBy valueIn
+unfolding opens level raised flow valued pensions spread twice whole sumTo flowsChecked blockChecked blockSum valueBy valueIn
 blocks-open = 0
 
 abbrev after-level : Book
@@ -72,3 +85,51 @@ raised-values :
     ≡ (0 ∷ 55_558 ∷ 55_559 ∷ 2 ∷ 1 ∷ []) ∷ (0 ∷ 55_558 ∷ 55_559 ∷ 1 ∷ 2 ∷ []) ∷ []
 unfolding blocks-open
 raised-values = refl
+
+-- ---- demand 3 refuses a value whose entries are rounded one by one, the adjusted curve's, and one under the told month
+
+abbrev after-raised : Count
+after-raised = record { told = 3; posts = raised ∷ []; depth = 1 }
+
+abbrev low-in : ℕ → ℕ
+low-in y = bandOf plain raised y .low
+
+abbrev high-in : ℕ → ℕ
+high-in y = bandOf plain raised y .high
+
+twice-high : costOf high-in twice ≡ 23_738_166
+unfolding blocks-open
+twice-high = refl
+
+whole-low : costOf low-in whole ≡ 553_675_753_000_000_000
+unfolding blocks-open
+whole-low = refl
+
+raised-month : monthOf raised ≡ 2
+unfolding blocks-open
+raised-month = refl
+
+-- a value that demand 3 lets through is one on the bands, under the sheet's month
+let-through : (fs : List Flow) (v : Value) → ValueTells 2_399 after-raised fs (done v) →
+    Valued low-in high-in fs (pair (v .low) (v .high)) × (v .month ≡ monthOf raised)
+let-through fs v tells =
+    let shown = tells .shows raised (refl, refl) (omega (arith, raised-month)) in
+    by-worth _ _ (shown .worth) (shown .worth-tells) (shown .found)
+  where
+    by-worth : (m a : ℕ) (o : Outcome Pair) → BlockTells low-in high-in fs o → done v ≡ datedAt m a o →
+        Valued low-in high-in fs (pair (v .low) (v .high)) × (v .month ≡ m)
+    by-worth m a (refused g) t e = absurd (refused-not-done (sym e))
+    by-worth m a (done p) t e =
+        let same = done-injective e in (
+          subst (Valued low-in high-in fs) (sym (ap (λ (x : Value). pair (x .low) (x .high)) same)) (t .values-only p refl .2),
+          ap (λ (x : Value). x .month) same,
+        )
+
+each-rounded : ValueTells 2_399 after-raised twice (done (dated (pair 0 2) 2 1)) → ⊥
+each-rounded tells = omega (arith, let-through twice _ tells .0 .high-rounded .smallest 1 (omega (arith, twice-high)))
+
+adjusted-valued : ValueTells 2_399 after-raised whole (done (dated (pair 542_712_164 542_712_255) 2 1)) → ⊥
+adjusted-valued tells = omega (arith, let-through whole _ tells .0 .low-rounded .largest 553_675_753 (omega (arith, whole-low)))
+
+told-month : (p : Pair) → ValueTells 2_399 after-raised pensions (done (dated p 3 0)) → ⊥
+told-month p tells = let month = let-through pensions _ tells .1 in omega (arith, month, raised-month)

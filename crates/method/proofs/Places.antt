@@ -13,7 +13,8 @@ use Rattle.method.specs.Units.{Pair, SignedPair}
 use Rattle.method.specs.Grounds.{Ground, numberOf, placeOf, Outcome, refused, done, _>>=_, demand}
 use Rattle.method.specs.Grounds.{unknownProfile, wrongLength, wrongRecord, outOfRange, noVolume, afterToldMonth, beforeStandingCurve, lowBelowOne}
 use Rattle.method.specs.Grounds.{highAboveLimit, endFailsTest, bandTooWide, monthAboveLast, monthBeforeTold}
-use Rattle.method.specs.Grounds.{yearOutside, noCurve, bufferTooShort, ageAboveLimit, noHighRate, noPostLeft, wrongCount, flowYearOutside, centsAboveLimit}
+use Rattle.method.specs.Grounds.{yearOutside, noCurve, bufferTooShort, ageAboveLimit, noHighRate, noPostLeft}
+use Rattle.method.specs.Grounds.{wrongCount, flowYearOutside, centsAboveLimit}
 use Rattle.method.specs.Sheet.{profileKnown, layoutOf, sizeOf, Slot, slotsOf, firstFailure, rightRecord}
 use Rattle.method.specs.Sheet.{inRange, total, Numbers, sheetNumbers, readSheet, Profile, euro, fromTen, fromFifteen, quotedMaturities, smoothingYear}
 use Rattle.method.specs.Quotes.{lowerEnd, upperEnd, annuity, parLow, parHigh, trial, highestFactor}

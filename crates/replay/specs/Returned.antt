@@ -7,11 +7,11 @@ use lib.ListN.{length, drop}
 use Rattle.method.specs.Bytes.{inBytes, twosComplement32}
 use Rattle.method.specs.Units.{Which, plain, adjusted}
 use Rattle.method.specs.Grounds.{bufferTooShort, numberOf, Outcome, refused, done}
-use Rattle.valuation.specs.Block.{Flow}
 use Rattle.ledger.specs.Answers.{Wanted, factor, sum, Finding, Value, answerNumber, answerPlace}
 use Rattle.ledger.specs.Book.{Book, Paged, lookUp, page, value}
 use Rattle.ledger.specs.Calls.{run}
 use Rattle.ledger.specs.Count.{Count, count}
+use Rattle.block.specs.Views.{paired}
 use Rattle.journal.specs.Journal.{decode}
 use Rattle.journal.specs.Replies.{Reply, posted, turned, withdrawn, looked, cutShort, notKnown}
 
@@ -26,8 +26,9 @@ lookAfter limit journal w v y = lookUp (bookAfter limit journal) w v y
 abbrev pub pageAfter : ℕ → List ℕ → Which → List ℕ → Paged
 pageAfter limit journal w l = page (bookAfter limit journal) w l
 
-abbrev pub valueAfter : ℕ → List ℕ → List Flow → Outcome Value
-valueAfter limit journal fs = value (bookAfter limit journal) fs
+-- of a list that is lent as plain numbers, year and cents in turn
+abbrev pub valueAfter : ℕ → List ℕ → List ℕ → Outcome Value
+valueAfter limit journal numbers = value (bookAfter limit journal) (paired numbers)
 
 abbrev pub countOf : List ℕ → Count
 countOf journal = count (decode journal)

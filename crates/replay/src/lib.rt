@@ -166,7 +166,7 @@ pub extern "C" fn tuyqorem_value_after(
     flows: &[u64],
     out: &mut [u8],
 ) -> u64
-    ensures returned { λ r. ⌜ returned r (now (out .exit)) ≡ valueReturned (valueAfter «age_limit» (now (calls .entry)) (paired (now (flows .entry)))) (now (out .entry)) ⌝ }
+    ensures returned { λ r. ⌜ returned r (now (out .exit)) ≡ valueReturned (valueAfter «age_limit» (now (calls .entry)) (now (flows .entry))) (now (out .entry)) ⌝ }
     ensures told { λ _. ⌜ Demand3 «age_limit» (decode (now (calls .entry))) ⌝ }
 {
     let valued = value_after(age_limit, calls, flows);

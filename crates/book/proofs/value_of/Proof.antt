@@ -159,7 +159,8 @@ module _ {M : Type 1} (𝓤 : URA M) (H : Heap 𝓤) (A : Atoms 𝓤) (W : Given
   exits r u e is =
       qed W ((‵ (flft κ q) ⊛ ‵ ftrue) ∷ ‵ OwnList ∷ ‵ OwnBook ∷ []) ∵
       suffices ! _
-      (ends-at 𝓤 H A valuing.ended stayed (valuing.clauses 𝓤 H A mem run) W (((κ, tt), (q, tt), tt, (k, (lent, tt)), at), tt) u r (tt, (tt, tt)) (tt, (tt, tt))) $
+      (ends-at 𝓤 H A valuing.ended stayed (valuing.clauses 𝓤 H A mem run) W (((κ, tt), (q, tt), tt, (k, (lent, tt)), at), tt) u r
+      (tt, (tt, tt)) (tt, (tt, tt))) $
       says ! e $ frame ! $ nothing ! $ move ! (1 ∷ 0 ∷ []) $ fjoin ! $ move ! (1 ∷ 0 ∷ []) $ fjoin ! $ frame ! $
       owned ! R.the-row (Is R.the-row) (LL.makes R.the-type R′.the-plain 𝓤 H A) r (u ∷ []) is $ done !
 
@@ -172,7 +173,8 @@ module _ {M : Type 1} (𝓤 : URA M) (H : Heap 𝓤) (A : Atoms 𝓤) (W : Given
         alloc1 ! (λ l₀. alloc1 ! (λ l₁. alloc1 ! (λ l₂. alloc1 ! (λ l₃. alloc0 ! $
         params1 ! $ pass1 ! (init ! 4 refl (LL.lawful K.the-type K′.the-laws 𝓤 H A W .typed k _ is-book .0)) $
         pass1 ! (init ! 2 refl (tt, (tt, (record { fits = room .0 }, tt)))) $ pass0 ! $
-        move ! (8 ∷ []) $ use1 W (raw (BlockOf 𝓤 H A mem run .pre to-block) ⊛ (‵ OwnList ⊛ ‵ OwnBook)) apart $ split ! $ move ! (1 ∷ []) $ split ! $ move ! (2 ∷ []) $
+        move ! (8 ∷ []) $ use1 W (raw (BlockOf 𝓤 H A mem run .pre to-block) ⊛ (‵ OwnList ⊛ ‵ OwnBook)) apart $ split ! $
+        move ! (1 ∷ []) $ split ! $ move ! (2 ∷ []) $
         -- [what `block_of` asks; OwnList; OwnBook; _3; …; _2; …; _1; …; _0; …]
         calls-at ! fm (BlockOf 𝓤 H A mem run) known-block to-block (and-then ! (load ! (from ! (stop !)) (look ! 5 refl)) (no-more !)) (λ u.
         use1 W
