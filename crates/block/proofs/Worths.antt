@@ -5,17 +5,17 @@ use mathlib.Core.List.{List, [], _∷_}
 use mathlib.Core.Path.{_≡_, refl, sym, ap, subst, subst⁻¹, _∙_}
 use Prim.Native.Nat.{ℕ, zero, suc, _+_, _*_, _-_, _≤_, _<_}
 use native.Mathlib.Omega.{arith}
-use lib.Dec.{leb, eqb}
+use lib.Dec.{eqb}
 use lib.ListN.{length, getD, set, replicate, length-set, length-replicate}
 use lib.Seq.{getD-set-same, getD-set-other}
-use borrow.Author.Tests.{leb-true, eqb-true, eqb-false}
+use borrow.Author.Tests.{eqb-true, eqb-false}
 use Rattle.fraction.specs.Rounding.{U, roundℕ}
 use Rattle.method.specs.Units.{Pair, pair}
-use Rattle.method.specs.Curve.{yearInside}
-use Rattle.method.specs.Grounds.{done, wrongCount, flowYearOutside, centsAboveLimit}
-use Rattle.method.proofs.Outcome.{done-injective, bind-done, bind-assoc, demand-done, both-true, split}
+use Rattle.method.specs.Grounds.{done}
+use Rattle.method.proofs.Outcome.{done-injective, bind-done, bind-assoc, split}
 use Rattle.valuation.specs.Block as valuation
-use Rattle.valuation.specs.Block.{mostCents, countInside, flowsChecked, blockChecked, blockSum, worthOf, valueBy}
+use Rattle.valuation.specs.Block.{flowsChecked, blockChecked, blockSum, worthOf, valueBy}
+use Rattle.valuation.proofs.Checks.{first-passed, count-passed}
 use Rattle.grounds.specs.declared.Ground.{Ground}
 use Rattle.grounds.specs.declared.Verdict.the-variants.{Passed, Refused}
 use Rattle.grounds.specs.Verdicts.{asOutcome}
@@ -24,33 +24,6 @@ use Rattle.block.specs.declared.Block.{Block}
 use Rattle.block.specs.Entries.{Totals}
 use Rattle.block.specs.Views.{totalsFrom, blockOf, asBlock, factorIn, weighed}
 use Rattle.block.proofs.Enters.{set-le, zeros-le}
-
--- ---- a list that passed: its first entry, and its count
-
-record Inside (entry : ℕ) (f : valuation.Flow) (fs : List valuation.Flow) : Type 0 where
-  from-1 : 1 ≤ f .year
-  to-150 : f .year ≤ 150
-  cents-few : f .cents ≤ 1_000_000_000
-  others : flowsChecked (entry + 1) fs ≡ done tt
-
-first-inside : (entry : ℕ) (f : valuation.Flow) (fs : List valuation.Flow) → flowsChecked entry (f ∷ fs) ≡ done tt → Inside entry f fs
-unfolding flowsChecked
-first-inside entry f fs e =
-    let year = demand-done (yearInside (f .year)) (flowYearOutside entry) _ e in
-    let cents = demand-done (leb (f .cents) mostCents) (centsAboveLimit entry) _ (year .1) in
-    let both = both-true (leb 1 (f .year)) (leb (f .year) 150) (year .0) in
-    record {
-      from-1 = leb-true _ _ (both .0);
-      to-150 = leb-true _ _ (both .1);
-      cents-few = leb-true _ _ (cents .0);
-      others = cents .1;
-    }
-
-few-entries : (fs : List valuation.Flow) → blockChecked fs ≡ done tt → (length fs ≤ 1_000) × (flowsChecked 1 fs ≡ done tt)
-unfolding blockChecked
-few-entries fs e =
-    let count = demand-done (countInside (length fs)) wrongCount _ e in
-    (leb-true _ _ (both-true (leb 1 (length fs)) (leb (length fs) 1_000) (count .0) .1), count .1)
 
 -- ---- the totals: how many, and how large
 
@@ -63,22 +36,19 @@ totals-le : (ts : List ℕ) (fs : List valuation.Flow) (entry n : ℕ) → flows
     ((k : ℕ) → getD ts k 0 ≤ n * 1_000_000_000) → (k : ℕ) → getD (totalsFrom ts fs) k 0 ≤ (n + length fs) * 1_000_000_000
 unfolding totalsFrom
 totals-le ts [] entry n e h k = omega (arith, h k)
-totals-le ts (f ∷ fs) entry n e h k = omega (arith, totals-le next fs (entry + 1) (suc n) (inside .others) next-le k)
+totals-le ts (f ∷ fs) entry n e h k = omega (arith, totals-le next fs (entry + 1) (suc n) (first-passed entry f fs e .1) next-le k)
   where
-    inside : Inside entry f fs
-    inside = first-inside entry f fs e
-
     next : List ℕ
     next = set ts (f .year - 1) (getD ts (f .year - 1) 0 + f .cents)
 
     next-le : (j : ℕ) → getD next j 0 ≤ suc n * 1_000_000_000
-    next-le j = set-le ts (f .year - 1) _ j (suc n * 1_000_000_000) (omega (arith, h j)) (omega (arith, h (f .year - 1), inside .cents-few))
+    next-le j = set-le ts (f .year - 1) _ j (suc n * 1_000_000_000) (omega (arith, h j)) (omega (arith, h (f .year - 1), first-passed entry f fs e .0 .1))
 
 totals-held : (fs : List valuation.Flow) → blockChecked fs ≡ done tt → Totals (totalsFrom (replicate 150 0) fs)
 totals-held fs e =
-    let (few, passed) = few-entries fs e in (
+    let (counted, passed) = count-passed fs e in (
       totals-length (replicate 150 0) fs ∙ length-replicate {A = ℕ} 150 0,
-      λ k. omega (arith, totals-le (replicate 150 0) fs 1 0 passed (λ j. omega (arith, zeros-le 150 j)) k),
+      λ k. omega (arith, counted .1, totals-le (replicate 150 0) fs 1 0 passed (λ j. omega (arith, zeros-le 150 j)) k),
     )
 
 -- ---- weighed, where the total at k grows by c
@@ -130,19 +100,19 @@ module _ (factors : List ℕ) where
   unfolding totalsFrom blockSum
   totals-weighed ts [] entry long e = omega arith
   totals-weighed ts (f ∷ fs) entry long e =
-      let inside = first-inside entry f fs e in
+      let (right, others-passed) = first-passed entry f fs e in
       let k : ℕ = f .year - 1 in
-      let small : k < 150 = omega (arith, inside .from-1, inside .to-150) in
+      let small : k < 150 = omega (arith, right .0 .0, right .0 .1) in
       let within : k < length ts = omega arith in
       let grows = weighed-grown ts factors k (f .cents) within 150 small in
-      let others = totals-weighed (grown ts factors k (f .cents) within) fs (entry + 1) (length-set ts _ _ ∙ long) (inside .others) in
+      let others = totals-weighed (grown ts factors k (f .cents) within) fs (entry + 1) (length-set ts _ _ ∙ long) others-passed in
       omega arith
 
   block-weighed : (fs : List valuation.Flow) → blockChecked fs ≡ done tt →
       weighed (totalsFrom (replicate 150 0) fs) factors 150 ≡ blockSum (factorIn factors) fs
   block-weighed fs e =
       let zeros : List ℕ = replicate 150 0 in
-      omega (arith, totals-weighed zeros fs 1 (length-replicate {A = ℕ} 150 0) (few-entries fs e .1), weighed-zeros 150 150 factors)
+      omega (arith, totals-weighed zeros fs 1 (length-replicate {A = ℕ} 150 0) (count-passed fs e .1), weighed-zeros 150 150 factors)
 
 -- ---- the value, beside a list's block
 

@@ -85,26 +85,30 @@ module _ (fs : List Flow) where
 
 -- ---- and nothing else passes
 
-passed : (k : ℕ) (fs : List Flow) {x : Unit {0}} → flowsChecked k fs ≡ done x → (j : ℕ) → j < length fs → Right (getD fs j noEntry)
+pub first-passed : (k : ℕ) (f : Flow) (fs : List Flow) {x : Unit {0}} → flowsChecked k (f ∷ fs) ≡ done x → Right f × (flowsChecked (k + 1) fs ≡ done x)
 unfolding flowsChecked
-passed k [] e j h = absurd (omega (arith, h))
-passed k (f ∷ fs) e j h =
+first-passed k f fs e =
     let year = demand-done (leb 1 (f .year) && leb (f .year) 150) _ _ e in
     let inside = both-true (leb 1 (f .year)) (leb (f .year) 150) (year .0) in
-    let cents = demand-done (leb (f .cents) mostCents) _ _ (year .1) in
-    go j h ((leb-true 1 (f .year) (inside .0), leb-true (f .year) 150 (inside .1)), omega (arith, leb-true (f .cents) mostCents (cents .0)))
-    (λ i l. passed (k + 1) fs (cents .1) i l)
-  where
-    go : (j : ℕ) → j < suc (length fs) → Right f → ((i : ℕ) → i < length fs → Right (getD fs i noEntry)) → Right (getD (f ∷ fs) j noEntry)
-    go zero h r later = r
-    go (suc j) h r later = later j (omega (arith, h))
+    let cents = demand-done (leb (f .cents) mostCents) _ _ (year .1) in (
+      ((leb-true 1 (f .year) (inside .0), leb-true (f .year) 150 (inside .1)), omega (arith, leb-true (f .cents) mostCents (cents .0))),
+      cents .1,
+    )
 
-pub passed-right : (fs : List Flow) {x : Unit {0}} → blockChecked fs ≡ done x → Counted fs × RightTo fs (length fs)
+passed : (k : ℕ) (fs : List Flow) {x : Unit {0}} → flowsChecked k fs ≡ done x → (j : ℕ) → j < length fs → Right (getD fs j noEntry)
+passed k [] e j h = absurd (omega (arith, h))
+passed k (f ∷ fs) e zero h = first-passed k f fs e .0
+passed k (f ∷ fs) e (suc j) h = passed (k + 1) fs (first-passed k f fs e .1) j (omega arith)
+
+pub count-passed : (fs : List Flow) {x : Unit {0}} → blockChecked fs ≡ done x → Counted fs × (flowsChecked 1 fs ≡ done x)
 unfolding blockChecked
-passed-right fs e =
+count-passed fs e =
     let count = demand-done (leb 1 (length fs) && leb (length fs) mostFlows) _ _ e in
     let both = both-true (leb 1 (length fs)) (leb (length fs) mostFlows) (count .0) in
-    ((leb-true 1 (length fs) (both .0), omega (arith, leb-true (length fs) mostFlows (both .1))), λ i h k. passed 1 fs (count .1) (i - 1) (omega arith))
+    ((leb-true 1 (length fs) (both .0), omega (arith, leb-true (length fs) mostFlows (both .1))), count .1)
+
+pub passed-right : (fs : List Flow) {x : Unit {0}} → blockChecked fs ≡ done x → Counted fs × RightTo fs (length fs)
+passed-right fs e = let (count, entries) = count-passed fs e in (count, λ i h k. passed 1 fs entries (i - 1) (omega arith))
 
 -- ---- the grounds of a list: 20, and 21 and 22 with a place in it
 
