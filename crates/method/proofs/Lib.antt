@@ -1,5 +1,6 @@
 pub mod Computes
 pub mod Outcome
+pub mod Offset
 pub mod Holding
 pub mod Enclosed
 pub mod Entries
