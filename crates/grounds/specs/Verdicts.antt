@@ -30,6 +30,7 @@ asGround code.UnknownProfile = method.unknownProfile
 asGround code.WrongCount = method.wrongCount
 asGround (code.FlowYearOutside i) = method.flowYearOutside i
 asGround (code.CentsAboveLimit i) = method.centsAboveLimit i
+asGround code.NoShift = method.noShift
 
 abbrev pub asOutcome : {A : Type 0} → Verdict → A → Outcome A
 asOutcome Passed a = done a

@@ -27,6 +27,7 @@ pub enum Ground {
     WrongCount,
     FlowYearOutside(u64),
     CentsAboveLimit(u64),
+    NoShift,
 }
 
 pub enum Verdict {
@@ -60,6 +61,7 @@ fn ground_number(g: Ground) -> u64
         Ground::WrongCount => 20,
         Ground::FlowYearOutside(_) => 21,
         Ground::CentsAboveLimit(_) => 22,
+        Ground::NoShift => 23,
     }
 }
 

@@ -25,6 +25,7 @@ pub data Ground : Type 0 where
   wrongCount : Ground
   flowYearOutside : ℕ → Ground
   centsAboveLimit : ℕ → Ground
+  noShift : Ground
 
 abbrev pub numberOf : Ground → ℕ
 numberOf wrongLength = 1
@@ -49,6 +50,7 @@ numberOf unknownProfile = 19
 numberOf wrongCount = 20
 numberOf (flowYearOutside i) = 21
 numberOf (centsAboveLimit i) = 22
+numberOf noShift = 23
 
 -- a record from 1, a year, an entry of a list from 1, or 0 where none is named
 abbrev pub placeOf : Ground → ℕ
@@ -74,6 +76,7 @@ placeOf unknownProfile = 0
 placeOf wrongCount = 0
 placeOf (flowYearOutside i) = i
 placeOf (centsAboveLimit i) = i
+placeOf noShift = 0
 
 -- ---- a result, or the first ground that applies
 
