@@ -27,7 +27,7 @@ natural-range low n high e =
     let t = both-true (leb low n) (leb n high) e in
     (leb-true _ _ (t .0), leb-true _ _ (t .1))
 
-integer-range : (z : ℤ) → (leZ (negsuc 1_999) z && leZ z (pos 12_000)) ≡ true → RateInRange z
+pub integer-range : (z : ℤ) → (leZ (negsuc 1_999) z && leZ z (pos 12_000)) ≡ true → RateInRange z
 integer-range (pos n) e = let h = leb-true n 12_000 e in omega arith
 integer-range (negsuc n) e = let h = leb-true n 1_999 (both-true (leb n 1_999) true e .0) in omega arith
 

@@ -2,7 +2,7 @@
 use mathlib.Core.Path.{_≡_, refl, sym, ap, _∙_}
 use mathlib.Core.Bool.{Bool, true, false, cond}
 use mathlib.Core.List.{List, [], _∷_, _++_, map}
-use Prim.Native.Nat.{ℕ, zero, suc, _+_, _*_, _≤_, _<_}
+use Prim.Native.Nat.{ℕ, zero, suc, _+_, _-_, _*_, _≤_, _<_}
 use native.Mathlib.Nat.{not-suc-le-zero, le-of-suc-le-suc}
 use native.Mathlib.Omega.{arith}
 use lib.IntN.{pos, natAbs}
@@ -12,6 +12,7 @@ use Rattle.method.specs.Sheet.{Kind, month, rate, volume, ultimate, limi
 use Rattle.method.specs.Sheet.{Profile, euro, fromTen, fromFifteen, quoteCount, smoothingIndex, volumeCount, quotedMaturities, volumeMaturities}
 use Rattle.method.specs.Sheet.{total, bytesOf, optional, Layout, layoutOf, entriesOf, sizeOf, Slot, slotsFrom, slotsOf, slot, noSlot, slotAt}
 use Rattle.method.specs.Sheet.{numberOfRecord, allNumbers, sheetNumbers, firstFailure, monthIndex, rateIndex, volumeIndex, ultimateIndex}
+use Rattle.method.proofs.Outcome.{split}
 
 -- ---- records one after the other
 
@@ -59,6 +60,13 @@ slots-of-kind k s [] es j h = absurd (not-suc-le-zero h)
 slots-of-kind k s (m ∷ ms) es zero h = ap (slot k m) (omega arith)
 slots-of-kind k s (m ∷ ms) es (suc j) h =
     slots-of-kind k (s + 1 + bodyLength k) ms es j (le-of-suc-le-suc h) ∙ ap (slot k (getD ms j 0)) (omega arith)
+
+-- a slot starts behind what stands before all of them
+slots-from : (s : ℕ) (es : List Entry) (j : ℕ) → j < length es → s ≤ getD (slotsFrom s es) j noSlot .start
+unfolding slotsFrom
+slots-from s [] j h = absurd (not-suc-le-zero h)
+slots-from s (e ∷ es) zero h = omega arith
+slots-from s (e ∷ es) (suc j) h = omega (arith, slots-from (s + 1 + bodyLength (e .kind)) es j (le-of-suc-le-suc h))
 
 -- ---- the markets
 
@@ -215,16 +223,16 @@ module _ (l : Layout) where
   pub size-most : sizeOf l ≤ 117
   size-most = omega (arith, size-is, first-bytes (l .led) (l .profile) .1, at-most-3 (l .phased), at-most-3 (l .adjusts))
 
-  pub slots-length : length (slotsOf l) ≡ countBy l
+  volumes-last : length (slotsOf l) ≡ volumeIndex l + length fromVolumes
   unfolding slotsOf entriesOf
+  volumes-last =
+      slots-count 0 (entriesOf l) ∙ omega (arith, length-append lead fromMonth, lead-length, length-append rates fromVolumes, rates-count)
+
+  pub slots-length : length (slotsOf l) ≡ countBy l
   slots-length =
-      slots-count 0 (entriesOf l)
+      volumes-last
       ∙ omega (
         arith,
-        length-append lead fromMonth,
-        lead-length,
-        length-append rates fromVolumes,
-        rates-count,
         length-append volumes fromUltimate,
         volumes-count,
         length-append (optional (l .phased) phaseIn) (optional (l .adjusts) adjustment),
@@ -280,6 +288,9 @@ module _ (l : Layout) where
   unfolding slotsFrom
   month-slot = ap (slotAt l) (omega arith) ∙ month-on 0
 
+  month-ends : (i : ℕ) → i ≡ monthIndex l → slotAt l i .start + 1 + bodyLength (slotAt l i .kind) ≤ rateStart (l .led)
+  month-ends i e = rw (e, month-slot) (omega arith)
+
   pub rate-slot : (j : ℕ) → j < quoteCount (l .profile) → slotAt l (rateIndex l + j) ≡ slot rate (getD maturities j 0) (rateStart (l .led) + 4 * j)
   rate-slot j h =
       rates-on j
@@ -322,6 +333,16 @@ module _ (l : Layout) where
       (omega (arith, optional-length (l .phased) phaseIn)) (omega (arith, bytes-of-optional (l .phased) phaseIn))
       ∙ rw e refl
 
+  -- the records before the rates end where those start, and the records behind them start where those end
+  pub before-rates : (i : ℕ) → i < rateIndex l → slotAt l i .start + 1 + bodyLength (slotAt l i .kind) ≤ rateStart (l .led)
+  before-rates zero h = split (l .led) (λ e. rw (profile-slot e, e) (omega arith)) (λ e. month-ends zero (rw e refl))
+  before-rates (suc i) h = month-ends (suc i) (omega (arith, at-most-1 (l .led)))
+
+  pub behind-rates : (i : ℕ) → volumeIndex l ≤ i → i < length (slotsOf l) → volumeStart (l .led) (l .profile) ≤ slotAt l i .start
+  behind-rates i from h =
+      let at : i ≡ volumeIndex l + (i - volumeIndex l) = omega arith in
+      rw (at, volumes-on (i - volumeIndex l)) (slots-from _ fromVolumes (i - volumeIndex l) (omega (arith, volumes-last)))
+
 -- ---- the first failure, one slot after the other
 
 module _ (p : Slot → Bool) (ts : List Slot) (i : ℕ) where
@@ -348,6 +369,12 @@ none-fails p i [] e j h = absurd (not-suc-le-zero h)
 none-fails p i (t ∷ ts) e zero h = passed (p t) (firstFailure p (suc (suc i)) ts) i e .0
 none-fails p i (t ∷ ts) e (suc j) h =
     none-fails p (suc i) ts (passed (p t) (firstFailure p (suc (suc i)) ts) i e .1) j (le-of-suc-le-suc h)
+
+-- every slot passes: no failure
+pub all-pass : (p : Slot → Bool) (i : ℕ) (ts : List Slot) → ((j : ℕ) → j < length ts → p (getD ts j noSlot) ≡ true) → firstFailure p i ts ≡ 0
+unfolding firstFailure
+all-pass p i [] each = refl
+all-pass p i (t ∷ ts) each = rw (each 0 (omega arith)) (all-pass p (suc i) ts (λ j h. each (suc j) (omega arith)))
 
 -- ---- the numbers of all records
 

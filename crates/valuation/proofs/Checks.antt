@@ -9,6 +9,7 @@ use lib.Dec.{leb}
 use lib.ListN.{length, getD}
 use Rattle.method.specs.Units.{Pair}
 use Rattle.method.specs.Grounds.{Ground, numberOf, placeOf, wrongCount, flowYearOutside, centsAboveLimit, Outcome, refused, done, _>>=_, demand}
+use Rattle.method.proofs.Places.{place}
 use Rattle.method.proofs.Outcome.{split, demand-done, both-true, refused-not-done}
 use Rattle.valuation.specs.Block.{Flow, mostFlows, mostCents, flowsChecked, blockChecked, valueBy}
 use Rattle.valuation.specs.Meaning.{entryAt, Counted, YearRight, Right, RightTo}
@@ -138,6 +139,13 @@ module _ (p : Ground → Type 0) where
       (λ b. rw (a, b) (entries-on 1 fs (λ i from to. h i from (omega (arith, to, leb-true (length fs) mostFlows b)))))
       (λ b. rw (a, b) n))
       (λ a. rw a n)
+
+pub list-place : (fs : List Flow) → place (blockChecked fs) ≤ 1_000
+list-place fs = go (blockChecked fs) (block-on (λ g. placeOf g ≤ 1_000) fs (omega arith) (λ i a b. (b, b)))
+  where
+    go : (o : Outcome (Unit {0})) → OnGround (λ g. placeOf g ≤ 1_000) o → place o ≤ 1_000
+    go (refused g) h = h
+    go (done x) h = omega arith
 
 -- a ground of a value is one of its list
 valued-on : (p : Ground → Type 0) (low high : ℕ → ℕ) (fs : List Flow) (g : Ground) → OnGround p (blockChecked fs) → valueBy low high fs ≡ refused g → p g

@@ -10,19 +10,28 @@ use Rattle.fraction.specs.Fraction.{ℚ, natℚ, _*ℚ_}
 use Rattle.fraction.specs.Rounding.{ceilDiv, Encloses}
 use Rattle.fraction.proofs.Enclosure.{encloses-times, encloses-÷-nat}
 use Rattle.method.specs.Units.{Pair, pair}
-use Rattle.method.specs.Grounds.{Ground, refused, done}
+use Rattle.method.specs.Grounds.{Ground, Outcome, refused, done}
 use Rattle.method.proofs.Outcome.{bind-done, done-injective}
 use Rattle.method.proofs.Quotients.{ceilDiv-≤, ceilDiv-covers}
 use Rattle.valuation.specs.Block.{Flow, blockChecked, worthBy, valueBy}
-use Rattle.valuation.specs.Meaning.{entryAt, RightTo, costOf, exactValue, LargestWithin, SmallestCovering, Valued, BlockTells}
+use Rattle.valuation.specs.Meaning.{entryAt, RightTo, costOf, exactValue, LargestWithin, SmallestCovering, Valued, ListTells, BlockTells}
 use Rattle.valuation.proofs.Checks.{count-wrong, all-right, first-year, first-cents, passed-right}
 use Rattle.valuation.proofs.Sums.{sum-encloses, cost-is}
 
 largest-within : (a : ℕ) → LargestWithin a (a / 1_000_000_000)
 largest-within a = record { no-more = div-mul-le-self a 1_000_000_000; largest = λ n h. le-div-iff-mul-le {k = 1_000_000_000} (omega arith) .1 h }
 
-smallest-covering : (a : ℕ) → SmallestCovering a (ceilDiv a 1_000_000_000)
+pub smallest-covering : (a : ℕ) → SmallestCovering a (ceilDiv a 1_000_000_000)
 smallest-covering a = record { no-less = ceilDiv-covers a 1_000_000_000 (omega arith); smallest = λ n h. ceilDiv-≤ (omega arith) h }
+
+-- an answer that hands on every ground of the list
+pub list-tells : {A : Type 0} (fs : List Flow) (a : Outcome A) → ((g : Ground) → blockChecked fs ≡ refused g → a ≡ refused g) → ListTells fs a
+list-tells fs a on =
+    record {
+      wrong-count = λ n. on _ (count-wrong fs n);
+      wrong-year = λ n i from to r y. on _ (first-year fs n i from to r y);
+      wrong-cents = λ n i from to r y c. on _ (first-cents fs n i from to r y c);
+    }
 
 module _ (low high : ℕ → ℕ) (fs : List Flow) where
   -- over the entries by their places
@@ -57,9 +66,7 @@ module _ (low high : ℕ → ℕ) (fs : List Flow) where
   pub block-tells : BlockTells low high fs (valueBy low high fs)
   block-tells =
       record {
-        wrong-count = λ n. value-fails (count-wrong fs n);
-        wrong-year = λ n i from to r y. value-fails (first-year fs n i from to r y);
-        wrong-cents = λ n i from to r y c. value-fails (first-cents fs n i from to r y c);
+        list-refused = list-tells fs _ (λ g. value-fails);
         values = λ n r. (worthBy low high fs, value-passes (all-right fs n r), valued r);
         values-only = λ p e.
             let was = was-passed p e in

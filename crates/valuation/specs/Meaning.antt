@@ -65,7 +65,10 @@ pub record Valued (low high : ℕ → ℕ) (fs : List Flow) (p : Pair) : Type 0 
       (x : ℕ → ℚ) → ((y : ℕ) → 1 ≤ y → y ≤ 150 → Encloses (pos (low y)) (pos (high y)) (x y)) →
       Encloses (pos (p .low)) (pos (p .high)) (exactValue x fs)
 
-pub record BlockTells (low high : ℕ → ℕ) (fs : List Flow) (a : Outcome Pair) : Type 0 where
+-- ---- the answer
+
+-- of a list with a wrong count or a wrong entry, whatever is asked of it
+pub record ListTells {A : Type 0} (fs : List Flow) (a : Outcome A) : Type 0 where
   pub wrong-count : (Counted fs → ⊥) → a ≡ refused wrongCount
   -- of the first wrong entry, with its place: its year before its cents
   pub wrong-year :
@@ -73,6 +76,9 @@ pub record BlockTells (low high : ℕ → ℕ) (fs : List Flow) (a : Outcome Pai
   pub wrong-cents :
       Counted fs → (i : ℕ) → 1 ≤ i → i ≤ length fs → RightTo fs (i - 1) → YearRight (entryAt fs i) → 1_000_000_000 < entryAt fs i .cents →
       a ≡ refused (centsAboveLimit i)
+
+pub record BlockTells (low high : ℕ → ℕ) (fs : List Flow) (a : Outcome Pair) : Type 0 where
+  pub list-refused : ListTells fs a
   pub values : Counted fs → RightTo fs (length fs) → (p : Pair) × (a ≡ done p) × Valued low high fs p
   -- and nothing else is valued
   pub values-only : (p : Pair) → a ≡ done p → Counted fs × RightTo fs (length fs) × Valued low high fs p

@@ -1,0 +1,5 @@
+pub mod Search
+pub mod Ranges
+pub mod Quotes
+pub mod Retyped
+pub mod Theorem
