@@ -144,6 +144,13 @@ pub fn block_of_numbers(numbers: &[u64]) -> Block
     closed(b, n)
 }
 
+// Why the list is refused, or that it is not.
+pub fn verdict(b: Block) -> Verdict
+    ensures { λ r. ⌜ r ≡ b .verdict ⌝ }
+{
+    b.verdict
+}
+
 // ---- the value
 
 // Sums of products, those of the millions of cents apart from those of the rest, so that neither wraps.

@@ -1,0 +1,5 @@
+pub mod Bounds
+pub mod Places
+pub mod Moving
+pub mod Costs
+pub mod Blocks
