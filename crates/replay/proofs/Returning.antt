@@ -5,6 +5,7 @@ use mathlib.Core.Path.{_≡_, refl, ap, sym, subst, _∙_}
 use Prim.Native.Nat.{ℕ, _+_, _*_, _≤_, _<_}
 use native.Mathlib.Omega.{arith}
 use lib.Dec.{T}
+use lib.IntN.{ℤ}
 use lib.ListN.{length, drop, length-append}
 use borrow.Author.Tests.{le-leb, lt-leb}
 use Rattle.method.specs.Bytes.{inBytes, twosComplement32, putAt}
@@ -27,7 +28,7 @@ use Rattle.journal.specs.Replies.{Reply, posted, turned, withdrawn, looked, cut
 use Rattle.journal.specs.Made.{asReply}
 use Rattle.journal.specs.declared.Reply as code
 use Rattle.journal.specs.declared.Reply.the-variants.{Posted, Turned, Withdrawn, Looked, CutShort, NotKnown}
-use Rattle.replay.specs.Returned.{returned, packed, datedBytes, foundBytes, replyReturned, pageReturned, replied}
+use Rattle.replay.specs.Returned.{returned, packed, datedBytes, foundBytes, shiftBytes, replyReturned, pageReturned, replied}
 
 -- ---- a verdict as one number
 
@@ -60,6 +61,13 @@ module _ {A : Type 0} (size : ℕ) (bytes : A → List ℕ) (lent : List ℕ) {o
 
     pub reply-written : (exit : List ℕ) → exit ≡ bytes a ++ drop size lent → size ≤ length lent → returned 0 exit ≡ replyReturned size bytes o lent
     reply-written exit w h = rw (e, le-leb size (length lent) h, w)
+
+-- ---- a shift's
+
+pub shift-put : (s : ℤ) (lent : List ℕ) {n : ℕ} {out : List ℕ} → n ≡ twosComplement32 s → out ≡ putAt 0 (inBytes 2 n) lent → out ≡ shiftBytes s ++ drop 2 lent
+shift-put s lent e put =
+    put ∙ ap (λ (k : ℕ). putAt 0 (inBytes 2 k) lent) e ∙ put-first (shiftBytes s) lent
+    ∙ ap (λ (k : ℕ). shiftBytes s ++ drop k lent) (inBytes-length 2 (twosComplement32 s))
 
 -- ---- what starts a reply: four numbers, put one behind the other
 

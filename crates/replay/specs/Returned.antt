@@ -3,10 +3,12 @@ use mathlib.Core.Bool.{cond}
 use mathlib.Core.List.{List, _++_}
 use Prim.Native.Nat.{ℕ, _+_, _*_, _/_, _%_}
 use lib.Dec.{eqb, leb}
+use lib.IntN.{ℤ}
 use lib.ListN.{length, drop}
 use Rattle.method.specs.Bytes.{inBytes, twosComplement32}
 use Rattle.method.specs.Units.{Which, plain, adjusted}
 use Rattle.method.specs.Grounds.{bufferTooShort, numberOf, Outcome, refused, done}
+use Rattle.shift.specs.Shift.{shiftFor}
 use Rattle.ledger.specs.Answers.{Wanted, factor, sum, Finding, Value, answerNumber, answerPlace}
 use Rattle.ledger.specs.Book.{Book, Paged, lookUp, page, value}
 use Rattle.ledger.specs.Calls.{run}
@@ -29,6 +31,10 @@ pageAfter limit journal w l = page (bookAfter limit journal) w l
 -- of a list that is lent as plain numbers, year and cents in turn
 abbrev pub valueAfter : ℕ → List ℕ → List ℕ → Outcome Value
 valueAfter limit journal numbers = value (bookAfter limit journal) (paired numbers)
+
+-- the shift of a sheet, and of such a list
+abbrev pub shiftBy : List ℕ → List ℕ → ℕ → Outcome ℤ
+shiftBy sheet numbers target = shiftFor sheet (paired numbers) target
 
 abbrev pub countOf : List ℕ → Count
 countOf journal = count (decode journal)
@@ -80,6 +86,13 @@ lookReturned o l = replyReturned 28 foundBytes o l
 
 abbrev pub valueReturned : Outcome Value → List ℕ → Returned
 valueReturned o l = replyReturned 20 valueBytes o l
+
+-- the lowest two bytes of its two's complement
+abbrev pub shiftBytes : ℤ → List ℕ
+shiftBytes s = inBytes 2 (twosComplement32 s)
+
+abbrev pub shiftReturned : Outcome ℤ → List ℕ → Returned
+shiftReturned o l = replyReturned 2 shiftBytes o l
 
 abbrev pub pageReturned : Paged → Returned
 pageReturned p = returned (packed (p .answer)) (p .buffer)

@@ -1,4 +1,5 @@
-// The book after the calls of a journal, made with an age limit, and what is then answered: for programs in Rattle, and in C by include/tuyqorem.h.
+// The book after the calls of a journal, made with an age limit, and what is then answered: for programs in Rattle, and in C by include/tuyqorem.h. In C
+// also the shift that meets a target, for which there is no book.
 use big_endian::put;
 use big_endian::twos_complement;
 use book::Book;
@@ -13,6 +14,7 @@ ghost use mathlib.Core.Path.{_≡_};
 ghost use mathlib.Core.List.{_++_};
 ghost use Prim.Native.Nat.{_+_, _*_, _≤_};
 ghost use lib.ListN.{length, drop};
+ghost use Rattle.shift.specs.Meaning.{ShiftTells};
 ghost use Rattle.ledger.specs.Calls.{lookAt, pageInto, valueOf};
 ghost use Rattle.ledger.specs.Tells.{Tells};
 ghost use Rattle.ledger.specs.Demands.{Demand3, Withdraws};
@@ -23,7 +25,7 @@ ghost use Rattle.book.specs.Steps.{ValuedAs};
 ghost use Rattle.journal.specs.Journal.{front, decode};
 ghost use Rattle.journal.specs.Replies.{replyTo};
 ghost use Rattle.replay.specs.Returned.{bookAfter, lookAfter, pageAfter, valueAfter, lookBy, countOf, byKind, wantedBy, datedBytes, foundBytes};
-ghost use Rattle.replay.specs.Returned.{returned, lookReturned, pageReturned, valueReturned, replied};
+ghost use Rattle.replay.specs.Returned.{returned, lookReturned, pageReturned, valueReturned, shiftBy, shiftReturned, replied};
 
 // Makes all calls, from a fresh book of this age limit on.
 pub fn replay(age_limit: u64, calls: &[u8]) -> Book
@@ -179,6 +181,24 @@ pub extern "C" fn tuyqorem_value_after(
     }
     let value = valued.value;
     put_dated(value.low, value.high, value.month, value.age, out);
+    0
+}
+
+// Of a sheet and a list by themselves: no book is asked.
+#[no_mangle]
+pub extern "C" fn tuyqorem_shift(sheet: &[u8], flows: &[u64], target: u64, out: &mut [u8]) -> u64
+    ensures returned { λ r. ⌜ returned r (now (out .exit)) ≡ shiftReturned (shiftBy (now (sheet .entry)) (now (flows .entry)) target) (now (out .entry)) ⌝ }
+    ensures told { λ _. ⌜ ShiftTells (now (sheet .entry)) (paired (now (flows .entry))) target (shiftBy (now (sheet .entry)) (now (flows .entry)) target) ⌝ }
+{
+    let found = shift_search::shift_of_numbers(sheet, flows, target);
+    let verdict = found.verdict;
+    let Verdict::Passed = verdict else {
+        return packed(verdict);
+    };
+    if out.len() < 2 {
+        return 15;
+    }
+    put(twos_complement(found.shift), 2, 0, out);
     0
 }
 
