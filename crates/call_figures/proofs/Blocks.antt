@@ -18,7 +18,7 @@ use Rattle.ledger.specs.Tells.{bandOf, datedAt, ValueTells}
 use Rattle.call_figures.proofs.Days.{opens}
 use Rattle.call_figures.proofs.Annuities.{level, raised}
 
-flow : ℕ → ℕ → Flow
+unfoldable pub flow : ℕ → ℕ → Flow
 flow year cents = record { year = year; cents = cents }
 
 -- the ground's number and its place; or 0, low, high, month and age
