@@ -1,7 +1,7 @@
 //! Second implementation of the dated curve book of the euro and two smaller markets: sheet
 //! reading, bootstrap from par rates, extrapolation, adjustment, zero rates, annuity sums, values
-//! of cash flows, the book itself, and the true curve of order n against which the enclosures,
-//! the rates, the sums and the values are checked.
+//! of cash flows, the shift that meets a target, the book itself, and the true curve of order n
+//! against which the enclosures, the rates, the sums and the values are checked.
 
 pub mod accepted;
 pub mod adjusted;
@@ -33,6 +33,7 @@ pub mod records;
 pub mod refusal;
 pub mod series;
 pub mod sheet;
+pub mod shift;
 pub mod streams;
 pub mod sums;
 pub mod true_curve;

@@ -33,7 +33,7 @@ impl Refusal {
 }
 
 /// The grounds in words, that of number n at index n - 1.
-const REASONS: [&str; 22] = [
+const REASONS: [&str; 23] = [
     "the sheet's length is none that its profile has",
     "a record's kind or maturity is not the one due",
     "a number is outside its range",
@@ -56,6 +56,7 @@ const REASONS: [&str; 22] = [
     "the list of cash flows is empty or has more than 1,000 entries",
     "the year of a cash flow is not 1 to 150",
     "the cents of a cash flow are above 1,000,000,000",
+    "no shift from -500 to 500 meets the target",
 ];
 
 impl fmt::Display for Refusal {

@@ -56,6 +56,20 @@ impl Sheet {
         &self.rates[..self.market().maturities.len()]
     }
 
+    /// The sheet with `shift` added to every quote, be it used or dropped, or none where ground 3 is
+    /// then against one. No other of grounds 19 and 1 to 4 depends on a rate.
+    pub fn shifted(&self, shift: i16) -> Option<Sheet> {
+        let mut shifted = self.clone();
+        let quotes = self.quoted_rates().len();
+        for rate in &mut shifted.rates[..quotes] {
+            *rate += shift;
+        }
+        let range = Kind::Rate.range();
+        let in_range = |&rate: &i16| range.contains(&i64::from(rate));
+        let passes = shifted.quoted_rates().iter().all(in_range);
+        passes.then_some(shifted)
+    }
+
     /// The volumes that the market's sheets carry.
     pub fn carried_volumes(&self) -> &[u32] {
         &self.volumes[..self.market().volume_maturities.len()]
