@@ -68,7 +68,7 @@ fn limit(random: &mut Random, sheet: &Sheet) -> u32 {
 
 /// A sheet whose rates are so far below 0, as far as 20, that its plain curve comes near 2 U: an
 /// adjustment below 0 takes the adjusted one past it. This is what ground 8 is for there.
-fn high_sheet(random: &mut Random, month: u16) -> Sheet {
+pub(crate) fn high_sheet(random: &mut Random, month: u16) -> Sheet {
     let level = random.between(-1_960, -1_850);
     // Beyond 20 they rise, since the quotes' own years to 50 must stay below 2 U as well.
     let rises = [200, 400, 620, 760];

@@ -34,6 +34,7 @@ pub mod refusal;
 pub mod series;
 pub mod sheet;
 pub mod shift;
+pub mod shifts;
 pub mod streams;
 pub mod sums;
 pub mod true_curve;
