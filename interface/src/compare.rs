@@ -14,16 +14,27 @@ use reference::journal::{answer_on, book_after, calls, look_up_by, value_by, WIT
 use reference::market::Market;
 use reference::questions::curve_age;
 use reference::refusal::Refusal;
+use reference::shifts::{Asked, Shifts};
 use reference::streams::Random;
 use reference::sums::Wanted;
 
-use crate::{answer_after, look_after, page_after, value_after};
+use crate::{answer_after, look_after, page_after, shift, value_after};
 
 /// Bytes in the reply to a look-up.
 pub const LOOK_UP_LENGTH: usize = 28;
 
 /// Bytes in the reply to a valuation; a look-up's starts like it.
 pub const VALUE_LENGTH: usize = 20;
+
+/// Bytes in the reply to a shift.
+pub const SHIFT_LENGTH: usize = 2;
+
+/// The grounds of bytes that are no sheet: their length, a record, a number and no volume. That of
+/// an unknown profile is `NO_PROFILE`.
+const WRONG_LENGTH: u64 = 1;
+const WRONG_RECORD: u64 = 2;
+const OUT_OF_RANGE: u64 = 3;
+const NO_VOLUME: u64 = 4;
 
 /// The ground of a year that is not on the curve.
 const NO_YEAR: u64 = 13;
@@ -51,6 +62,9 @@ const NO_LIST: u64 = 20;
 const NO_FLOW_YEAR: u64 = 21;
 const TOO_MANY_CENTS: u64 = 22;
 
+/// The ground of a target that no shift meets.
+const NO_SHIFT: u64 = 23;
+
 /// What a lent buffer of this length holds: seeded bytes, among which those that were written
 /// or moved from elsewhere in the buffer are seen.
 pub fn lent(length: usize) -> Vec<u8> {
@@ -58,8 +72,8 @@ pub fn lent(length: usize) -> Vec<u8> {
     (0..length).map(|_| random.below(256) as u8).collect()
 }
 
-/// A question asked after a journal; `named` is the number that names the curve and, in a look-up,
-/// the amount; lengths are those of the lent buffer.
+/// A question asked after a journal, which has no say in a shift; `named` is the number that names
+/// the curve and, in a look-up, the amount; lengths are those of the lent buffer.
 pub enum Question {
     LookUp {
         named: u64,
@@ -78,14 +92,30 @@ pub enum Question {
         numbers: Vec<u64>,
         length: usize,
     },
+    Shift {
+        asked: Asked,
+        /// The second implementation's answer, which is worked only once.
+        expected: Result<i16, Refusal>,
+        length: usize,
+    },
 }
 
 impl Question {
+    /// The question for this shift.
+    pub fn shift(asked: Asked, length: usize) -> Question {
+        Question::Shift {
+            expected: asked.answer(),
+            asked,
+            length,
+        }
+    }
+
     fn length(&self) -> usize {
         match self {
             Question::LookUp { length, .. }
             | Question::Page { length, .. }
-            | Question::Value { length, .. } => *length,
+            | Question::Value { length, .. }
+            | Question::Shift { length, .. } => *length,
             Question::Answer { .. } => 0,
         }
     }
@@ -103,23 +133,28 @@ impl Question {
             Question::Answer { .. } => Kind::Answer,
             Question::Value { length, .. } if *length < VALUE_LENGTH => Kind::ShortValue,
             Question::Value { .. } => Kind::Value,
+            Question::Shift { length, .. } if *length < SHIFT_LENGTH => Kind::ShortShift,
+            Question::Shift { .. } => Kind::Shift,
         }
     }
 
-    /// The curve that it names; a record's look-up and a valuation are of the plain one.
+    /// The curve that it names; a record's look-up, a valuation and a shift are of the plain one.
     fn which(&self) -> Which {
         match self {
             Question::LookUp { named, .. } | Question::Page { named, .. } => {
                 Which::named_by(*named)
             }
-            Question::Answer { .. } | Question::Value { .. } => Which::Plain,
+            Question::Answer { .. } | Question::Value { .. } | Question::Shift { .. } => {
+                Which::Plain
+            }
         }
     }
 
-    /// Whether it asks for the curve, and no post, turn or withdrawal.
+    /// Whether it asks for the book's curve, and no post, turn or withdrawal.
     fn shows_the_curve(&self) -> bool {
         match self {
             Question::Answer { call } => call.first() == Some(&LOOK_UP),
+            Question::Shift { .. } => false,
             _ => true,
         }
     }
@@ -146,6 +181,13 @@ impl fmt::Display for Question {
             Question::Value { numbers, length } => {
                 write!(f, "value of {numbers:?} into {length} bytes")
             }
+            Question::Shift { asked, length, .. } => write!(
+                f,
+                "shift of the sheet {} at which {:?} cost at most {} into {length} bytes",
+                hex(&asked.sheet),
+                asked.numbers,
+                asked.target
+            ),
         }
     }
 }
@@ -164,11 +206,13 @@ pub enum Kind {
     Withdrawal,
     Value,
     ShortValue,
+    Shift,
+    ShortShift,
 }
 
 impl Kind {
     /// All kinds, in the order in which they are told.
-    pub const ALL: [Kind; 16] = [
+    pub const ALL: [Kind; 18] = [
         Kind::LookUp(Which::Plain),
         Kind::LookUp(Which::Adjusted),
         Kind::ShortLookUp(Which::Plain),
@@ -185,6 +229,8 @@ impl Kind {
         Kind::Withdrawal,
         Kind::Value,
         Kind::ShortValue,
+        Kind::Shift,
+        Kind::ShortShift,
     ];
 
     /// The kind of a look-up of this curve and amount, into a buffer that is too short or not.
@@ -200,9 +246,11 @@ impl Kind {
     /// The answers that questions of this kind must meet for them to mean something. A page has
     /// no rates. An adjusted curve, which often is missing, must be there for some: they are
     /// accepted, or the buffer is too short for them. Sums meet all of a look-up's answers but 13,
-    /// and values all that they have.
+    /// and values and shifts all that they have.
     fn due(self) -> &'static [u64] {
         match self {
+            Kind::Shift => &SHIFT_ANSWERS,
+            Kind::ShortShift => &SHORT_SHIFT_ANSWERS,
             Kind::Value => &[0, NO_CURVE, TOO_OLD, NO_LIST, NO_FLOW_YEAR, TOO_MANY_CENTS],
             Kind::ShortValue => &[
                 SHORT_BUFFER,
@@ -231,8 +279,28 @@ impl Kind {
             Kind::Sum(which) | Kind::ShortSum(which) => which,
             Kind::Page(which) | Kind::ShortPage(which) => which,
             Kind::Answer | Kind::Withdrawal | Kind::Value | Kind::ShortValue => Which::Plain,
+            Kind::Shift | Kind::ShortShift => Which::Plain,
         }
     }
+}
+
+/// All answers to a shift, and all where the buffer is too short for a reply, which is tried last.
+const SHIFT_ANSWERS: [u64; 10] = shift_answers(0);
+const SHORT_SHIFT_ANSWERS: [u64; 10] = shift_answers(SHORT_BUFFER);
+
+const fn shift_answers(met: u64) -> [u64; 10] {
+    [
+        met,
+        NO_PROFILE,
+        WRONG_LENGTH,
+        WRONG_RECORD,
+        OUT_OF_RANGE,
+        NO_VOLUME,
+        NO_LIST,
+        NO_FLOW_YEAR,
+        TOO_MANY_CENTS,
+        NO_SHIFT,
+    ]
 }
 
 impl fmt::Display for Kind {
@@ -248,6 +316,8 @@ impl fmt::Display for Kind {
             Kind::Withdrawal => return f.write_str("answers to withdrawals"),
             Kind::Value => "values",
             Kind::ShortValue => "values into short buffers",
+            Kind::Shift => "shifts",
+            Kind::ShortShift => "shifts into short buffers",
         };
         match self.which() {
             Which::Plain => f.write_str(asked),
@@ -347,7 +417,7 @@ impl<'a> Case<'a> {
                 0 => answer == NOTHING_TO_WITHDRAW,
                 _ => answer == 0,
             },
-            Question::Answer { .. } => true,
+            Question::Answer { .. } | Question::Shift { .. } => true,
         }
     }
 
@@ -358,6 +428,7 @@ impl<'a> Case<'a> {
             Question::Page { named, .. } => page_after(limit, journal, *named, out),
             Question::Answer { call } => answer_after(limit, journal, call),
             Question::Value { numbers, .. } => value_after(limit, journal, numbers, out),
+            Question::Shift { asked, .. } => shift(&asked.sheet, &asked.numbers, asked.target, out),
         }
     }
 
@@ -373,6 +444,9 @@ impl<'a> Case<'a> {
                 let valued = value_by(&self.book, numbers);
                 let reply = valued.map(|v| dated_reply(v.amount, v.month, v.age));
                 code(reply.and_then(|reply| write(&reply, out)))
+            }
+            Question::Shift { expected, .. } => {
+                code(expected.and_then(|shift| write(&shift.to_be_bytes(), out)))
             }
         }
     }
@@ -421,7 +495,7 @@ fn eight_bytes(value: i128) -> [u8; 8] {
 
 /// How often each kind of question met each number, in all and by the profile of the curve that
 /// stood, adjusted curves that were missing beside a plain one, curves at the limit and just past
-/// it, and what valuations met.
+/// it, and what valuations and shifts met.
 #[derive(Default)]
 pub struct Met {
     numbers: BTreeMap<(Kind, u64), u64>,
@@ -430,6 +504,7 @@ pub struct Met {
     shown_at_the_limit: u64,
     a_month_past_it: u64,
     pub valuations: Valuations,
+    pub shifts: Shifts,
 }
 
 impl Met {
@@ -438,6 +513,14 @@ impl Met {
         let answer = case.ask(question)?;
         let number = answer % 256;
         *self.numbers.entry((question.kind(), number)).or_default() += 1;
+        if let Question::Shift {
+            asked, expected, ..
+        } = question
+        {
+            // Whatever curve stands has no part in it.
+            self.shifts.count(asked, *expected);
+            return Ok(answer);
+        }
         if let Some(profile) = case.profile() {
             let met = (profile, question.kind(), number);
             *self.by_profile.entry(met).or_default() += 1;
@@ -458,10 +541,11 @@ impl Met {
     }
 
     /// Says what was not met and must be for the questions to mean something: by each of these
-    /// kinds but withdrawals ground 16 and, unless it is of pages or values, 17; of those about
-    /// adjusted curves also one that is there and one that is missing beside a plain one; sums
-    /// that are shown, and 14; values that are shown, 14 and 20 to 22; withdrawals that are
-    /// accepted, and 18; and curves at the limit and a month past it.
+    /// kinds but withdrawals and shifts ground 16 and, unless it is of pages or values, 17; of
+    /// those about adjusted curves also one that is there and one that is missing beside a plain
+    /// one; sums that are shown, and 14; values that are shown, 14 and 20 to 22; withdrawals that
+    /// are accepted, and 18; shifts that are found, 19, 1 to 4 and 20 to 23; and, where the book
+    /// is asked, curves at the limit and a month past it.
     pub fn check(&self, kinds: &[Kind]) -> Result<(), String> {
         let adjusted = kinds.iter().any(|kind| kind.which() == Which::Adjusted);
         if adjusted && self.missing_beside_plain == 0 {
@@ -473,7 +557,9 @@ impl Met {
                 return Err(format!("ground {number} was not met by {kind}"));
             }
         }
-        if self.shown_at_the_limit == 0 || self.a_month_past_it == 0 {
+        let of_the_book = |kind: &Kind| ![Kind::Shift, Kind::ShortShift].contains(kind);
+        let of_curves = kinds.iter().any(of_the_book);
+        if of_curves && (self.shown_at_the_limit == 0 || self.a_month_past_it == 0) {
             return Err("no curve was met at the limit, or none a month past it".to_string());
         }
         Ok(())

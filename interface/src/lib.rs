@@ -38,6 +38,15 @@ extern "C" {
         out: *mut c_uchar,
         out_len: usize,
     ) -> u64;
+    fn tuyqorem_shift(
+        sheet: *const c_uchar,
+        sheet_len: usize,
+        flows: *const u64,
+        flows_len: usize,
+        target: u64,
+        out: *mut c_uchar,
+        out_len: usize,
+    ) -> u64;
 }
 
 /// Names the plain curve.
@@ -105,6 +114,23 @@ pub fn value_after(age_limit: u64, calls: &[u8], flows: &[u64], out: &mut [u8]) 
             calls.len(),
             flows.as_ptr(),
             flows.len(),
+            out.as_mut_ptr(),
+            out.len(),
+        )
+    }
+}
+
+/// Number + 256 × place of the ground, or 0. The flows are years and cents in turn, and the target is
+/// in cents. No journal has a say.
+pub fn shift(sheet: &[u8], flows: &[u64], target: u64, out: &mut [u8]) -> u64 {
+    // SAFETY: all slices are valid for their lengths, and a `&mut` overlaps nothing.
+    unsafe {
+        tuyqorem_shift(
+            sheet.as_ptr(),
+            sheet.len(),
+            flows.as_ptr(),
+            flows.len(),
+            target,
             out.as_mut_ptr(),
             out.len(),
         )

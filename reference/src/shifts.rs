@@ -132,7 +132,7 @@ pub fn wide(random: &mut Random) -> Asked {
         0 => any_sheet(random),
         1 => at_an_end(random),
         2 => turning_sheet(random),
-        3 | 4 => return at_the_last(random),
+        3..=6 => return at_the_last(random),
         _ => accepted(random, any_sheet),
     };
     asked(random, &sheet, |random| match random.below(6) {

@@ -1,12 +1,14 @@
 //! Asks the proved library and the second implementation the same questions after seeded
 //! journals, each under several age limits, about factors and sums of both curves, which are
-//! named by numbers of every sort, and about values of lists of cash flows, good and bad ones,
-//! and compares answers and buffers. It prints how often each kind of question met each ground,
+//! named by numbers of every sort, and about values of lists of cash flows, good and bad ones;
+//! and, of sheets, lists and targets that are good and bad, for the shift that meets the target.
+//! It compares answers and buffers. It prints how often each kind of question met each ground,
 //! what became of posts with dropped quotes or adjustments, how many accepted ones slack at known
-//! values would change and what the journals' withdrawals and the valuations met, and fails where
+//! values would change and what the journals' withdrawals, the valuations and the shifts met, and fails where
 //! one never met 16, where one that asks for rates never met 17, where no adjusted curve was
 //! shown or missing, where no sum was shown or refused with 14, where no value was shown or one
-//! of its grounds or some sort of list was not met, where no sheet was accepted with some gap
+//! of its grounds or some sort of list was not met, where no shift was found in some way or one
+//! of its grounds was not met, where no sheet was accepted with some gap
 //! that runs on over a dropped maturity, or with some tail, where slack would change none in some
 //! way, where some profile was not accepted, not shown in some way or did not meet one of its
 //! grounds, or where some sort of withdrawal was not met.
@@ -22,6 +24,7 @@ use reference::counts::PostCounts;
 use reference::curve::Which;
 use reference::journal::calls;
 use reference::questions::{age_limits, call, journal, kind, limits_around, page_kind};
+use reference::shifts::{narrow, refused_at_once, wide};
 use reference::streams::Random;
 use reference::sums::Wanted;
 use reference::valuation::numbers_of;
@@ -39,6 +42,14 @@ const PAGE_BUFFERS: [usize; 12] = [
 /// Buffers for valuations, whose reply has 20 bytes; a look-up's would fit in the last two.
 const VALUE_BUFFERS: [usize; 9] = [0, 1, 16, 19, 20, 20, 21, 28, 64];
 
+/// Buffers for shifts, whose reply has 2 bytes.
+const SHIFT_BUFFERS: [usize; 6] = [0, 1, 2, 2, 3, 20];
+
+/// A shift may take as long as 1,001 posts. So one of few shifted sheets is asked for after one in so
+/// many journals, one of any after one in more, and after every journal one that is refused at once.
+const NARROW_EVERY: u64 = 5;
+const WIDE_EVERY: u64 = 24;
+
 /// Posts between two lines that tell how far the run is.
 const PROGRESS: u64 = 20_000;
 
@@ -49,7 +60,7 @@ fn main() -> ExitCode {
     };
     let mut seen = Seen::default();
     let compared = compare(seed, posts, &mut seen);
-    println!("{}\n{}", seen.met, seen.met.valuations);
+    println!("{}\n{}\n{}", seen.met, seen.met.valuations, seen.met.shifts);
     println!("{}\n{}", seen.counts, seen.withdrawals);
     let checked = seen.check();
     match compared.and_then(|done| checked.map(|()| done)) {
@@ -83,6 +94,7 @@ impl Seen {
         self.met.check(&Kind::ALL)?;
         self.met.check_markets()?;
         self.met.valuations.check()?;
+        self.met.shifts.check()?;
         self.counts.check()?;
         self.withdrawals.check()
     }
@@ -109,7 +121,7 @@ fn compare(seed: u64, posts: u64, seen: &mut Seen) -> Result<(u64, u64), String>
         // A seed of its own makes each journal repeatable without those before it.
         let mut random = Random::new(seed.wrapping_mul(1_000_003).wrapping_add(number));
         let journal = journal(&mut random);
-        let asked = ask(&mut random, &journal, &mut seen.met);
+        let asked = ask(&mut random, &journal, number, &mut seen.met);
         asked.map_err(|text| format!("journal {number}: {text}"))?;
         seen.count_journal(&journal);
         let before = done;
@@ -128,7 +140,7 @@ fn posts_in(journal: &[u8]) -> u64 {
 }
 
 /// The library replays the journal for each question, so that a few under each limit must do.
-fn ask(random: &mut Random, journal: &[u8], met: &mut Met) -> Result<(), String> {
+fn ask(random: &mut Random, journal: &[u8], number: u64, met: &mut Met) -> Result<(), String> {
     let limits = age_limits(random);
     let any_limit = limits[random.below(limits.len() as u64) as usize];
     let replayed = Case::replayed(any_limit, journal);
@@ -139,7 +151,23 @@ fn ask(random: &mut Random, journal: &[u8], met: &mut Met) -> Result<(), String>
             met.ask(&case, &question)?;
         }
     }
+    for question in shifts(random, number) {
+        met.ask(&replayed, &question)?;
+    }
     Ok(())
+}
+
+/// The shifts that are asked for after the journal of this number.
+fn shifts(random: &mut Random, number: u64) -> Vec<Question> {
+    let mut asked = vec![refused_at_once(random)];
+    if number.is_multiple_of(NARROW_EVERY) {
+        asked.push(narrow(random));
+    }
+    if number.is_multiple_of(WIDE_EVERY) {
+        asked.push(wide(random));
+    }
+    let question = |asked| Question::shift(asked, random.one_of(&SHIFT_BUFFERS));
+    asked.into_iter().map(question).collect()
 }
 
 /// The same of each curve, the answers to two records, and values of a list that no ground is
