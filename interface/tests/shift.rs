@@ -96,7 +96,7 @@ fn flat(rate: i16) -> Sheet {
     }
 }
 
-/// Its last year's quotes have no volume, one of them next to either end of the range.
+/// The flat sheet with two quotes that have no volume, at these rates.
 fn between_dropped(low: i16, high: i16) -> Sheet {
     let mut sheet = level(7);
     sheet.volumes = [1, 1, 1, 0, 0];
@@ -109,7 +109,11 @@ fn between_dropped(low: i16, high: i16) -> Sheet {
 #[test]
 fn figures() {
     // Year 1 at 3% and s is 100,000 U / (103,000 + s), rounded up.
-    for sheet in [level(0), to_10(&level(0)), in_market(&level(0), Market::TO_15)] {
+    for sheet in [
+        level(0),
+        to_10(&level(0)),
+        in_market(&level(0), Market::TO_15),
+    ] {
         for (target, expected) in [
             (975_609_757, Ok(-500)),
             (975_609_756, Ok(-499)),
@@ -129,9 +133,8 @@ fn figures() {
 
 #[test]
 fn every_byte_of_a_reply() {
-    let sheet = sheet_bytes(&to_10(&within(1, flat(0))));
-    for (shift_by, expected) in [
-        (-500_i16, [0xFE, 0x0C]),
+    for (by, expected) in [
+        (-500, [0xFE, 0x0C]),
         (-257, [0xFE, 0xFF]),
         (-256, [0xFF, 0x00]),
         (-1, [0xFF, 0xFF]),
@@ -141,16 +144,15 @@ fn every_byte_of_a_reply() {
         (258, [0x01, 0x02]),
         (500, [0x01, 0xF4]),
     ] {
-        let sheet = sheet_bytes(&to_10(&within(1, flat(-shift_by))));
+        let sheet = sheet_bytes(&to_10(&within(1, flat(-by))));
         for length in [2, 3, 4, 8, 64] {
             let lent = lent(length);
             let mut out = lent.clone();
             assert_eq!(shift(&sheet, &[150, 7], 7, &mut out), 0);
-            assert_eq!(out[..2], expected, "{shift_by}");
+            assert_eq!(out[..2], expected, "{by}");
             assert_eq!(out[2..], lent[2..], "{length} bytes");
         }
     }
-    assert_eq!(answered(&sheet, &[150, 7], 6), NONE);
 }
 
 #[test]
@@ -187,7 +189,10 @@ fn targets_up_to_the_largest() {
 fn the_smallest_is_found_where_later_ones_cost_more_or_fail() {
     // A higher rate slows down the convergence to a far higher ultimate rate.
     let sheet = with_x(20_000, flat(300));
-    let sheet = to_10(&Sheet { ufr: 10_000, ..sheet });
+    let sheet = to_10(&Sheet {
+        ufr: 10_000,
+        ..sheet
+    });
     let high = |by| high_at(&sheet, by, &[60, U]).unwrap();
     let (first, highest, last) = (high(-500), high(200), high(500));
     assert!(first < last && last < highest);
@@ -249,10 +254,9 @@ fn the_adjusted_curve_must_pass_and_has_no_other_say() {
 
 #[test]
 fn no_month_is_too_late_and_nothing_is_kept() {
-    let expected = Ok(0);
     for month in [0, 1, 2_399] {
         let sheet = to_10(&level(month));
-        assert_eq!(found(&sheet, &[1, U], 970_873_787), expected);
+        assert_eq!(found(&sheet, &[1, U], 970_873_787), Ok(0));
         assert_eq!(found(&sheet, &[1, U], 0), NONE);
         assert_eq!(found(&to_10(&flat(0)), &[], 0), Err((20, 0)));
     }
@@ -321,7 +325,11 @@ fn grounds_come_in_their_order_into_every_buffer() {
     for length in [0, 1, 2, 3, 20] {
         for (sheet, of_sheet) in &sheets {
             for (numbers, of_list) in &lists {
-                let expected = if *of_sheet == (0, 0) { of_list } else { of_sheet };
+                let expected = if *of_sheet == (0, 0) {
+                    of_list
+                } else {
+                    of_sheet
+                };
                 for target in [0, ANY] {
                     let lent = lent(length);
                     let mut out = lent.clone();
@@ -351,7 +359,10 @@ fn a_short_buffer_is_tried_after_23() {
 fn a_list_has_1_to_1000_entries_and_an_even_count() {
     let sheet = to_10(&level(0));
     let numbers = vec![1; 4_002];
-    for count in (0..=40).chain(1_990..=2_010).chain([2_256, 4_000, 4_001, 4_002]) {
+    for count in (0..=40)
+        .chain(1_990..=2_010)
+        .chain([2_256, 4_000, 4_001, 4_002])
+    {
         let list = count % 2 == 0 && (2..=2_000).contains(&count);
         let expected = if list { Ok(-500) } else { Err((20, 0)) };
         assert_eq!(found(&sheet, &numbers[..count], ANY), expected, "{count}");

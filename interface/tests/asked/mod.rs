@@ -8,9 +8,11 @@ use reference::sheet::Sheet;
 use reference::streams::{sheet_bytes, zero_sheet};
 
 /// The length of a page.
+#[allow(dead_code)]
 pub const PAGE: usize = 1_505;
 
 /// The length of a look-up's reply.
+#[allow(dead_code)]
 pub const REPLY: usize = 28;
 
 /// All rates at 3%, the ultimate forward rate too.
@@ -45,6 +47,7 @@ pub fn with(adjustment: i16, sheet: Sheet) -> Sheet {
 }
 
 /// The ground of a look-up into `length` bytes, all of which a refusal leaves.
+#[allow(dead_code)]
 pub fn looked(age_limit: u64, journal: &[u8], kind: u64, year: u64, length: usize) -> u64 {
     let mut out = vec![9; length];
     let ground = look_after(age_limit, journal, kind, year, &mut out);
@@ -53,6 +56,7 @@ pub fn looked(age_limit: u64, journal: &[u8], kind: u64, year: u64, length: usiz
 }
 
 /// The ground of a page into `length` bytes, all of which a refusal leaves.
+#[allow(dead_code)]
 pub fn paged(age_limit: u64, journal: &[u8], kind: u64, length: usize) -> u64 {
     let mut out = vec![9; length];
     let ground = page_after(age_limit, journal, kind, &mut out);
@@ -61,6 +65,7 @@ pub fn paged(age_limit: u64, journal: &[u8], kind: u64, length: usize) -> u64 {
 }
 
 /// The reply to an accepted look-up.
+#[allow(dead_code)]
 pub fn reply(journal: &[u8], kind: u64, year: u64) -> [u8; REPLY] {
     let mut out = [9; REPLY];
     let ground = look_after(LARGEST_AGE_LIMIT, journal, kind, year, &mut out);
@@ -69,12 +74,14 @@ pub fn reply(journal: &[u8], kind: u64, year: u64) -> [u8; REPLY] {
 }
 
 /// Low and high of a reply.
+#[allow(dead_code)]
 pub fn band(reply: &[u8; REPLY]) -> (u64, u64) {
     let number = |at: usize| u64::from_be_bytes(reply[at..at + 8].try_into().unwrap());
     (number(0), number(8))
 }
 
 /// The page that is shown.
+#[allow(dead_code)]
 pub fn page(journal: &[u8], kind: u64) -> [u8; PAGE] {
     let mut out = [9; PAGE];
     assert_eq!(page_after(LARGEST_AGE_LIMIT, journal, kind, &mut out), 0);
