@@ -33,13 +33,21 @@
  * the plain curve, whatever adjustment the sheet has: the sum of cents * factor / 1,000,000,000 over all entries, rounded once at
  * the end, lows down and highs up. No record of a journal values a block.
  *
+ * The shift that meets a target is the rate move at which a block costs no more than a given amount. It is worked from a sheet, a
+ * list and a target in cents alone: no journal is read and no book is consulted, so that no month is too late or too early. It is
+ * the smallest whole number from -500 to 500 which, added to every quote of the sheet, those that a volume of 0 drops too, makes a
+ * sheet that passes 1 to 4 and 7 to 10, with an adjustment on both curves, and on whose plain curve the block's high is at most the
+ * target. Nothing else of the sheet moves. The sheet as it is must pass 1 to 4 and may fail 7 to 10. As rates rise sheets may fail
+ * and pass again and a block may cost more, so shifts above the smallest need not meet the target; up to 1,001 sheets are worked.
+ *
  * A withdrawal takes back the latest accepted post that is not withdrawn: both curves and their month are again what stood
  * before it, be it none, and the told month remains. Up to three posts can be taken back, one after another; a post where three
  * can be forgets only the oldest way back. Where no post is left to withdraw the answer is 18.
  *
- * This is the interface from U11 on, as it was: only, there is one function more, tuyqorem_value_after, and 20 to 22
- * are new answers, which no other function gives; the place of its 21 or 22 is an entry of its list, up to 1,000. No
- * function has changed for it, and no journal is read otherwise. From U10 on a sheet may start with a profile record
+ * This is the interface from U12 on, as it was: only, there is one function more, tuyqorem_shift, and 23 is a new answer, which
+ * no other function gives. No function has changed for it, and no journal is read otherwise. From U11 on there is
+ * tuyqorem_value_after, and 20 to 22 are answers, which only it and tuyqorem_shift give; the place of a 21 or 22 is an entry of the
+ * list, up to 1,000. No function had changed for it. From U10 on a sheet may start with a profile record
  * (0x08), by which it was turned down on 1 or 2 before, 19 is an answer, and places of records count that record where
  * it stands; no function has changed for it, and sheets that start with another byte are answered as they were. From
  * U9 on, where rates, an ultimate rate or an adjustment of 0 make a logarithm or a growth known, bands are narrower,
@@ -65,11 +73,15 @@
  * own is valued, month and age are those of a look-up, and the true curve's value of every order, worked from the last accepted
  * post not withdrawn, lies between low and high.
  *
+ * It is proved of tuyqorem_shift, for every sheet's bytes, every list and every target: where no ground is against the sheet as it
+ * is or against the list, the answer is the smallest shift from -500 to 500 for which the shifted sheet passes 1 to 4 and 7 to 10
+ * and the block's high on its plain curve is at most the target, and 23 exactly when there is none.
+ *
  * It is proved of tuyqorem_answer_after, for every age limit, every journal and every call: the answer is exactly the one
  * that the definitions give to that call on the book of the journal; a withdrawal is answered 18 exactly when the journal's
  * depth is 0, to which an accepted post adds 1, up to 3, and from which an accepted withdrawal takes 1.
  *
- * A buffer may overlap neither the journal nor the cash flows.
+ * A buffer may overlap neither the journal, nor the sheet, nor the cash flows.
  */
 #ifndef TUYQOREM_H
 #define TUYQOREM_H
@@ -118,6 +130,17 @@ uint64_t tuyqorem_answer_after(uint64_t age_limit, const uint8_t *calls, size_t 
  * else 0. A year without a high rate is valued: 17 is no answer here. */
 uint64_t tuyqorem_value_after(uint64_t age_limit, const uint8_t *calls, size_t calls_len, const uint64_t *flows,
                               size_t flows_len, uint8_t *out, size_t out_len);
+
+/* The smallest shift of all quotes of a sheet at which a block of policies costs no more than target, which is in cents and any
+ * number. The sheet is its bytes alone, without the kind and the length of a journal's record; the cash flows are those of
+ * tuyqorem_value_after. Returns 0 and writes 2 bytes to out: the shift, -500 to 500, in hundred-thousandths of one, -12 being
+ * 0.012% less, in two's complement, high byte first. The bytes of out past them are kept. Otherwise out is left as it was and the
+ * answer is number + 256 * place, the number being, tried in this order, 19 and 1 to 4 as a post of the sheet has them, with their
+ * places, 20 (no entry, more than 1,000 entries, or an odd count), then entry by entry 21 (the year is not 1 to 150) before 22 (the
+ * cents are above 1,000,000,000), the place being the entry, from 1 to 1,000, then 23 (no shift meets the target), and last 15 (out
+ * has fewer than 2 bytes); the place of 20, 23 and 15 is 0. A call may take as long as 1,001 posts. */
+uint64_t tuyqorem_shift(const uint8_t *sheet, size_t sheet_len, const uint64_t *flows, size_t flows_len, uint64_t target,
+                        uint8_t *out, size_t out_len);
 
 #ifdef __cplusplus
 }

@@ -4,17 +4,24 @@
 //! second curve is paged, and of the smaller markets. Then short journals of posts, and the same
 //! with a withdrawal in place of every third, which tells what a withdrawal costs beside a post.
 //! Then pages of one post's curve, look-ups of its factors and of its sums, and valuations of
-//! 1,000 cash flows beside look-ups of all its factors.
+//! 1,000 cash flows beside look-ups of all its factors. Then shifts that meet their target
+//! nowhere beside posts of all 1,001 shifted sheets.
 
 use std::time::{Duration, Instant};
 
-use interface::compare::{LOOK_UP_LENGTH, VALUE_LENGTH};
-use interface::{look_after, page_after, value_after, ADJUSTED, PLAIN, SUM};
+use interface::compare::{LOOK_UP_LENGTH, SHIFT_LENGTH, VALUE_LENGTH};
+use interface::{look_after, page_after, shift, value_after, ADJUSTED, PLAIN, SUM};
 use reference::book::{LARGEST_AGE_LIMIT, PAGE_LENGTH};
 use reference::curve::{Which, YEARS};
-use reference::journal::{book_after, look_up_by, value_by};
+use reference::journal::{book_after, look_up_by, post, value_by};
 use reference::market::Market;
-use reference::streams::{accepted_posts, posts_and_withdrawals, Measured, Random};
+use reference::profiled::in_market;
+use reference::refusal::Refusal;
+use reference::sheet::Sheet;
+use reference::shift::{shift_by, SHIFTS};
+use reference::streams::{
+    accepted_posts, low_rates, posts_and_withdrawals, sheet_bytes, Measured, Random,
+};
 use reference::valuation::{MOST_CENTS, MOST_FLOWS};
 
 /// The fastest of these runs counts, as the least disturbed one.
@@ -36,6 +43,9 @@ const LOOK_UP_YEARS: [u64; 3] = [1, 20, 150];
 /// the longest list may take so many times as long as these.
 const VALUATIONS: usize = 300;
 const MOST_TIMES: f64 = 5.0;
+
+/// Shifts timed, each by itself, as often as the posts of all shifted sheets together.
+const SHIFTED: usize = 15;
 
 fn main() {
     let posts = std::env::args()
@@ -64,6 +74,14 @@ fn main() {
         time_look_ups(&one_post, year);
     }
     time_values(&one_post);
+    let low = low_rates(0, None);
+    for (sheets, sheet) in [
+        ("without X", low.clone()),
+        ("with X", low_rates(0, Some(20_000))),
+        ("of profile 2", in_market(&low, Market::TO_10)),
+    ] {
+        time_shifts(sheets, &sheet);
+    }
 }
 
 /// What a journal and a page took: in the proved library, and in the second implementation.
@@ -230,6 +248,38 @@ fn time_values(journal: &[u8]) {
             "{name}: a valuation of {MOST_FLOWS} cash flows takes {value:.2} µs, look-ups of \
              {YEARS} factors {looks:.2} µs; ratio {:.3}, of at most {MOST_TIMES}",
             value / looks
+        );
+    }
+}
+
+/// No block costs nothing, so that a target of 0 is met nowhere and every shifted sheet is worked. Each
+/// of them is accepted. The block has the most entries.
+fn time_shifts(sheets: &str, sheet: &Sheet) {
+    let shifted = SHIFTS.map(|by| sheet.shifted(by).expect("rates in their range"));
+    let posts: Vec<u8> = shifted
+        .flat_map(|sheet| post(&sheet_bytes(&sheet)))
+        .collect();
+    let (bytes, flows) = (sheet_bytes(sheet), any_flows());
+    let mut out = [0; SHIFT_LENGTH];
+    let (mut proved, mut plain, mut runs) = (vec![], vec![], vec![]);
+    for _ in 0..SHIFTED {
+        proved.push(time(|| assert_eq!(shift(&bytes, &flows, 0, &mut out), 23)));
+        let nowhere = Err(Refusal::plain(23));
+        plain.push(time(|| assert_eq!(shift_by(&bytes, &flows, 0), nowhere)));
+        runs.push(run(PLAIN, &posts));
+    }
+    let proved_posts = runs.iter().map(|run| run.proved).collect();
+    let plain_posts = runs.iter().map(|run| run.plain).collect();
+    for (name, shifts, posts) in [
+        ("proved", proved, proved_posts),
+        ("plain Rust", plain, plain_posts),
+    ] {
+        let (shift, posts) = (usual(shifts) / 1e3, usual(posts) / 1e3);
+        println!(
+            "{name}, {sheets}: a shift that is met nowhere takes {shift:.2} ms, {} posts of its \
+             sheets and a page {posts:.2} ms; ratio {:.2}",
+            SHIFTS.count(),
+            shift / posts
         );
     }
 }
