@@ -120,8 +120,8 @@ pub fn value_after(age_limit: u64, calls: &[u8], flows: &[u64], out: &mut [u8]) 
     }
 }
 
-/// Number + 256 × place of the ground, or 0. The flows are years and cents in turn, and the target is
-/// in cents. No journal has a say.
+/// Number + 256 × place of the ground, or 0. The flows are years and cents in turn, and the target
+/// is in cents. No journal has a say.
 pub fn shift(sheet: &[u8], flows: &[u64], target: u64, out: &mut [u8]) -> u64 {
     // SAFETY: all slices are valid for their lengths, and a `&mut` overlaps nothing.
     unsafe {

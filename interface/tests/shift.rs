@@ -382,13 +382,15 @@ fn a_list_has_1_to_1000_entries_and_an_even_count() {
 
 // Beside the second implementation
 
+/// How questions of a sort are drawn.
+type Draw = fn(&mut Random) -> Asked;
+
 #[test]
 fn shifts_agree() {
     let mut random = Random::new(124);
     let mut met = Met::default();
     let case = Case::replayed(0, &[]);
-    let sorts: [(fn(&mut Random) -> Asked, u64); 3] =
-        [(refused_at_once, 600), (narrow, 150), (wide, 32)];
+    let sorts: [(Draw, u64); 3] = [(refused_at_once, 600), (narrow, 150), (wide, 32)];
     for (draw, count) in sorts {
         for number in 0..count {
             let asked = draw(&mut random);

@@ -56,8 +56,8 @@ impl Sheet {
         &self.rates[..self.market().maturities.len()]
     }
 
-    /// The sheet with `shift` added to every quote, be it used or dropped, or none where ground 3 is
-    /// then against one. No other of grounds 19 and 1 to 4 depends on a rate.
+    /// The sheet with `shift` added to every quote, be it used or dropped, or none where ground 3
+    /// is then against one. No other of grounds 19 and 1 to 4 depends on a rate.
     pub fn shifted(&self, shift: i16) -> Option<Sheet> {
         let mut shifted = self.clone();
         let quotes = self.quoted_rates().len();

@@ -12,9 +12,9 @@ use crate::valuation::{flows_of, Block, Flow};
 /// The shifts that are tried, in the unit of the quotes.
 pub const SHIFTS: RangeInclusive<i16> = -500..=500;
 
-/// The smallest shift that meets the target, in cents, or the first ground that applies: 19 and 1 to
-/// 4 of the sheet as it is in `bytes`, 20 to 22 of the list, and 23 where no shift does. The sheet
-/// itself may fail 7 to 10.
+/// The smallest shift that meets the target, in cents, or the first ground that applies: 19 and 1
+/// to 4 of the sheet as it is in `bytes`, 20 to 22 of the list, and 23 where no shift does. The
+/// sheet itself may fail 7 to 10.
 pub fn shift(bytes: &[u8], flows: &[Flow], target: u64) -> Result<i16, Refusal> {
     let sheet = Sheet::read(bytes)?;
     let block = Block::of(flows)?;

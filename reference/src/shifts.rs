@@ -62,8 +62,9 @@ pub fn refused_at_once(random: &mut Random) -> Asked {
     }
 }
 
-/// A question that is soon worked: most often about a sheet of the euro with two dropped quotes that
-/// let only a few shifts pass, else about one that mostly is met early for the largest target.
+/// A question that is soon worked: most often about a sheet of the euro with two dropped quotes
+/// that let only a few shifts pass, else about one that mostly is met early for the largest
+/// target.
 pub fn narrow(random: &mut Random) -> Asked {
     let early = match random.below(8) {
         0 => high_sheet(random, 0),
@@ -74,7 +75,8 @@ pub fn narrow(random: &mut Random) -> Asked {
     at_any_cost(random, early)
 }
 
-/// A question about a sheet with a dropped quote next to the lowest rate and one next to the highest.
+/// A question about a sheet with a dropped quote next to the lowest rate and one next to the
+/// highest one.
 fn between_dropped(random: &mut Random) -> Asked {
     let mut sheet = accepted(random, with_dropped);
     if random.one_in(3) {
@@ -142,8 +144,8 @@ pub fn wide(random: &mut Random) -> Asked {
     })
 }
 
-/// A question about an ordinary sheet of a smaller market, all of whose shifts are soon worked, that
-/// is met at the last one or, with a cent less, mostly nowhere.
+/// A question about an ordinary sheet of a smaller market, all of whose shifts are soon worked,
+/// that is met at the last one or, with a cent less, mostly nowhere.
 fn at_the_last(random: &mut Random) -> Asked {
     let market = random.one_of(&Market::SMALLER);
     let ordinary = Sheet {
@@ -231,8 +233,8 @@ fn turning_sheet(random: &mut Random) -> Sheet {
     in_market(&drawn, random.one_of(&Market::ALL))
 }
 
-/// The question about this sheet, a good list and a target that is most often next to what the block
-/// costs at one of the shifts that are drawn.
+/// The question about this sheet, a good list and a target that is most often next to what the
+/// block costs at one of the shifts that are drawn.
 fn asked(random: &mut Random, sheet: &Sheet, draw: impl Fn(&mut Random) -> i16) -> Asked {
     let flows = block(random);
     let target = match random.below(16) {

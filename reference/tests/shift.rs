@@ -79,8 +79,8 @@ fn high_at(numbers: &Numbers, shift: i16, flows: &[Flow]) -> Result<u64, u8> {
     Ok(cost(&page, flows).div_ceil(u128::from(MOST)) as u64)
 }
 
-/// The first of all shifts that meets the target, worked from bytes alone. A cost is rounded up to at
-/// most the target exactly where it is at most the target before.
+/// The first of all shifts that meets the target, worked from bytes alone. A cost is rounded up to
+/// at most the target exactly where it is at most the target before.
 fn searched(sheet: &[u8], flows: &[Flow], target: u64) -> Option<i16> {
     (-500..=500).find(|&shift| {
         let page = page_of(&moved_bytes(sheet, shift));
@@ -152,8 +152,8 @@ fn the_range_ends_at_500_on_both_sides() {
     assert_eq!(found(&numbers, &block, high(501)), NONE);
 }
 
-/// As rates rise from -5% to 5% an X of 20% takes the convergence to a far higher ultimate rate from
-/// 20% to 10%, so that late years rise.
+/// As the rate rises from -0.5% to 0.5%, X lets the convergence factor fall from 20% to 10%: the
+/// far higher ultimate rate is reached later, so that late years cost more.
 fn turning(rate: i16) -> Numbers {
     Numbers {
         ufr: 10_000,
@@ -758,6 +758,9 @@ fn the_ground_in_words() {
 
 // Any sheet, list and target
 
+/// How questions of a sort are drawn.
+type Draw = fn(&mut Random) -> Asked;
+
 /// Asserts that the answer is the one that the search of all shifts has.
 fn assert_searched(asked: &Asked) {
     let expected = searched(&asked.sheet, &flows_of(&asked.numbers), asked.target);
@@ -825,8 +828,7 @@ fn seeded_shifts_meet_everything() {
     let mut random = Random::new(1_204);
     let mut met = Shifts::default();
     let mut grounds = [0; 24];
-    let sorts: [(fn(&mut Random) -> Asked, u64); 3] =
-        [(refused_at_once, 600), (narrow, 120), (wide, 36)];
+    let sorts: [(Draw, u64); 3] = [(refused_at_once, 600), (narrow, 120), (wide, 36)];
     for (draw, count) in sorts {
         for _ in 0..count {
             let asked = draw(&mut random);

@@ -252,8 +252,8 @@ fn time_values(journal: &[u8]) {
     }
 }
 
-/// No block costs nothing, so that a target of 0 is met nowhere and every shifted sheet is worked. Each
-/// of them is accepted. The block has the most entries.
+/// This block costs something everywhere, so that a target of 0 is met nowhere and every shifted
+/// sheet is worked, each of which is accepted. The block has the most entries.
 fn time_shifts(sheets: &str, sheet: &Sheet) {
     let shifted = SHIFTS.map(|by| sheet.shifted(by).expect("rates in their range"));
     let posts: Vec<u8> = shifted

@@ -1,17 +1,17 @@
 //! Asks the proved library and the second implementation the same questions after seeded
 //! journals, each under several age limits, about factors and sums of both curves, which are
 //! named by numbers of every sort, and about values of lists of cash flows, good and bad ones;
-//! and, of sheets, lists and targets that are good and bad, for the shift that meets the target.
-//! It compares answers and buffers. It prints how often each kind of question met each ground,
-//! what became of posts with dropped quotes or adjustments, how many accepted ones slack at known
-//! values would change and what the journals' withdrawals, the valuations and the shifts met, and fails where
-//! one never met 16, where one that asks for rates never met 17, where no adjusted curve was
-//! shown or missing, where no sum was shown or refused with 14, where no value was shown or one
-//! of its grounds or some sort of list was not met, where no shift was found in some way or one
-//! of its grounds was not met, where no sheet was accepted with some gap
-//! that runs on over a dropped maturity, or with some tail, where slack would change none in some
-//! way, where some profile was not accepted, not shown in some way or did not meet one of its
-//! grounds, or where some sort of withdrawal was not met.
+//! and, of sheets, lists and targets that are good and bad, for the shift that meets the
+//! target. It compares answers and buffers. It prints how often each kind of question met each
+//! ground, what became of posts with dropped quotes or adjustments, how many accepted ones
+//! slack at known values would change and what the journals' withdrawals, the valuations and
+//! the shifts met, and fails where one of a curve never met 16, where one for rates never met
+//! 17, where no adjusted curve was shown or missing, where no sum was shown or refused with 14,
+//! where no value was shown or one of its grounds or some sort of list was not met, where no
+//! shift was found in some way or one of its grounds was not met, where no sheet was accepted
+//! with some gap that runs on over a dropped maturity, or with some tail, where slack would
+//! change none in some way, where some profile was not accepted, not shown in some way or did
+//! not meet one of its grounds, or where some sort of withdrawal was not met.
 //!
 //!     differential [SEED [POSTS]]
 
@@ -45,8 +45,8 @@ const VALUE_BUFFERS: [usize; 9] = [0, 1, 16, 19, 20, 20, 21, 28, 64];
 /// Buffers for shifts, whose reply has 2 bytes.
 const SHIFT_BUFFERS: [usize; 6] = [0, 1, 2, 2, 3, 20];
 
-/// A shift may take as long as 1,001 posts. So one of few shifted sheets is asked for after one in so
-/// many journals, one of any after one in more, and after every journal one that is refused at once.
+/// A shift may take as long as 1,001 posts, so that one of few shifted sheets is asked for after
+/// one in so many journals, and one of all of them after one in more.
 const NARROW_EVERY: u64 = 5;
 const WIDE_EVERY: u64 = 24;
 
