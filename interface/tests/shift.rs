@@ -343,6 +343,29 @@ fn grounds_come_in_their_order_into_every_buffer() {
 }
 
 #[test]
+fn a_sheet_has_its_length_and_no_other() {
+    // As many bytes more as 8 or 16 bits can tell are not the same length.
+    for market in [
+        None,
+        Some(Market::EURO),
+        Some(Market::TO_10),
+        Some(Market::TO_15),
+    ] {
+        let sheet = market.map_or(level(0), |market| in_market(&level(0), market));
+        let good = sheet_bytes(&sheet);
+        let mut bytes = good.clone();
+        bytes.resize(good.len() + (1 << 16) + 1, 0);
+        let lengths =
+            (0..good.len()).chain([1, 2, 4, 5, 7, 256, 259, 1 << 16].map(|n| good.len() + n));
+        for length in lengths {
+            let found = answered(&bytes[..length], &[1, U], ANY);
+            assert_eq!(found, Err((1, 0)), "{length} bytes");
+        }
+        assert_eq!(answered(&good, &[1, U], ANY), Ok(-500));
+    }
+}
+
+#[test]
 fn a_short_buffer_is_tried_after_23() {
     let sheet = sheet_bytes(&to_10(&level(0)));
     for length in 0..=1 {
@@ -358,10 +381,10 @@ fn a_short_buffer_is_tried_after_23() {
 #[test]
 fn a_list_has_1_to_1000_entries_and_an_even_count() {
     let sheet = to_10(&level(0));
-    let numbers = vec![1; 4_002];
+    let numbers = vec![1; 131_074];
     for count in (0..=40)
         .chain(1_990..=2_010)
-        .chain([2_256, 4_000, 4_001, 4_002])
+        .chain([2_256, 4_000, 4_001, 4_002, 65_538, 131_074])
     {
         let list = count % 2 == 0 && (2..=2_000).contains(&count);
         let expected = if list { Ok(-500) } else { Err((20, 0)) };

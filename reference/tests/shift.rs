@@ -634,6 +634,8 @@ fn wrong_sheets() -> Vec<(Vec<u8>, (u8, u16))> {
         (vec![0x08], (1, 0)),
         (vec![0x08, 2], (1, 0)),
         (cut(&untraded), (1, 0)),
+        ([level().bytes(), vec![0; 256]].concat(), (1, 0)),
+        ([level().bytes(), vec![0; 1 << 16]].concat(), (1, 0)),
         (
             level().of_profile(2).with_x(9_999).adjusted(1).bytes(),
             (1, 0),
