@@ -272,6 +272,11 @@ impl Kind {
         }
     }
 
+    /// Whether questions of this kind are about the book that a journal leaves.
+    pub fn asks_the_book(self) -> bool {
+        !matches!(self, Kind::Shift | Kind::ShortShift)
+    }
+
     /// The curve that questions of this kind name.
     fn which(self) -> Which {
         match self {
@@ -557,9 +562,8 @@ impl Met {
                 return Err(format!("ground {number} was not met by {kind}"));
             }
         }
-        let of_the_book = |kind: &Kind| ![Kind::Shift, Kind::ShortShift].contains(kind);
-        let of_curves = kinds.iter().any(of_the_book);
-        if of_curves && (self.shown_at_the_limit == 0 || self.a_month_past_it == 0) {
+        let of_the_book = kinds.iter().any(|kind| kind.asks_the_book());
+        if of_the_book && (self.shown_at_the_limit == 0 || self.a_month_past_it == 0) {
             return Err("no curve was met at the limit, or none a month past it".to_string());
         }
         Ok(())

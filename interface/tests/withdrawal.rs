@@ -407,7 +407,8 @@ fn seeded_journals_agree() {
         }
     }
     println!("{met}\n{withdrawals}");
-    assert_eq!(met.check(&Kind::ALL), Ok(()));
+    let of_the_book = Kind::ALL.into_iter().filter(|kind| kind.asks_the_book());
+    assert_eq!(met.check(&of_the_book.collect::<Vec<_>>()), Ok(()));
     for meeting in Meeting::ALL {
         assert!(withdrawals.of(meeting) > 10, "{meeting}");
     }
