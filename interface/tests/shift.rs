@@ -305,8 +305,10 @@ fn shifts_are_those_of_the_librarys_own_valuations() {
 
 // Grounds
 
-#[test]
-fn grounds_come_in_their_order_into_every_buffer() {
+/// What is asked of, with number and place of the ground that is against it, 0 and 0 where none is.
+type Grounds<T> = Vec<(Vec<T>, (u64, u64))>;
+
+fn sheets() -> Grounds<u8> {
     let good = sheet_bytes(&to_10(&level(0)));
     let wrong_volume = Sheet {
         volumes: [0; 5],
@@ -317,7 +319,7 @@ fn grounds_come_in_their_order_into_every_buffer() {
         sheet.rates[16] = rate;
         sheet_bytes(&sheet)
     };
-    let sheets = [
+    vec![
         (vec![0x08, 4], (19, 0)),
         (vec![], (1, 0)),
         (vec![0x08], (1, 0)),
@@ -329,8 +331,11 @@ fn grounds_come_in_their_order_into_every_buffer() {
         (good.clone(), (0, 0)),
         // No ground of a shift is 7 to 10 of the sheet as it is.
         (sheet_bytes(&flat(-2_000)), (0, 0)),
-    ];
-    let lists = [
+    ]
+}
+
+fn wrong_lists() -> Grounds<u64> {
+    vec![
         (vec![], (20, 0)),
         (vec![1], (20, 0)),
         (vec![0, U + 1, 1], (20, 0)),
@@ -338,7 +343,12 @@ fn grounds_come_in_their_order_into_every_buffer() {
         (vec![0, U + 1], (21, 1)),
         (vec![1, 1, 1, U + 1, 0, 1], (22, 2)),
         (vec![1, 1, 1, 1, 151, U + 1], (21, 3)),
-    ];
+    ]
+}
+
+#[test]
+fn grounds_come_in_their_order_into_every_buffer() {
+    let (sheets, lists) = (sheets(), wrong_lists());
     for length in [0, 1, 2, 3, 20] {
         for (sheet, of_sheet) in &sheets {
             for (numbers, of_list) in &lists {

@@ -615,52 +615,57 @@ fn no_month_is_too_late() {
 
 /// Sheets with the ground that is against them.
 fn wrong_sheets() -> Vec<(Vec<u8>, (u8, u16))> {
-    let untraded = Numbers {
+    [wrong_forms(), wrong_numbers()].concat()
+}
+
+fn untraded() -> Numbers {
+    Numbers {
         volumes: [0; 5],
         ..level()
-    };
-    let with = |at: usize, byte: u8, numbers: &Numbers| {
+    }
+}
+
+/// Grounds 19, 1 and 2, some of them before later ones.
+fn wrong_forms() -> Vec<(Vec<u8>, (u8, u16))> {
+    let with = |at: usize, byte: u8, numbers: Numbers| {
         let mut bytes = numbers.bytes();
         bytes[at] = byte;
         bytes
     };
-    let cut = |numbers: &Numbers| numbers.bytes()[1..].to_vec();
-    let unknown = level().of_profile(9);
+    let unknown = level().of_profile(9).bytes();
+    let unfit = level().of_profile(2).with_x(9_999).adjusted(1);
     vec![
-        (unknown.bytes(), (19, 0)),
-        (unknown.bytes()[..50].to_vec(), (19, 0)),
+        (unknown.clone(), (19, 0)),
+        (unknown[..50].to_vec(), (19, 0)),
         (vec![0x08, 0], (19, 0)),
         (vec![], (1, 0)),
         (vec![0x08], (1, 0)),
         (vec![0x08, 2], (1, 0)),
-        (cut(&untraded), (1, 0)),
+        (untraded().bytes()[1..].to_vec(), (1, 0)),
         ([level().bytes(), vec![0; 256]].concat(), (1, 0)),
         ([level().bytes(), vec![0; 1 << 16]].concat(), (1, 0)),
-        (
-            level().of_profile(2).with_x(9_999).adjusted(1).bytes(),
-            (1, 0),
-        ),
-        (
-            with(68, 51, &untraded.clone().with_rate(1, 12_001)),
-            (2, 18),
-        ),
-        (with(0, 7, &level()), (2, 1)),
+        (unfit.bytes(), (1, 0)),
+        (with(68, 51, untraded().with_rate(1, 12_001)), (2, 18)),
+        (with(0, 7, level()), (2, 1)),
+    ]
+}
+
+/// Grounds 3 and 4, some of them before later ones.
+fn wrong_numbers() -> Vec<(Vec<u8>, (u8, u16))> {
+    let failing = Numbers {
+        rates: [-2_000; 17],
+        ..untraded()
+    };
+    vec![
         (level().with_rate(1, 12_001).bytes(), (3, 2)),
         (level().with_rate(50, -2_001).bytes(), (3, 18)),
-        (untraded.clone().with_rate(10, 12_500).bytes(), (3, 11)),
+        (untraded().with_rate(10, 12_500).bytes(), (3, 11)),
         (level().with_rate(10, 12_001).of_profile(2).bytes(), (3, 12)),
         (level().with_x(20_001).bytes(), (3, 26)),
         (level().adjusted(501).bytes(), (3, 26)),
-        (untraded.bytes(), (4, 0)),
-        (untraded.clone().of_profile(2).bytes(), (4, 0)),
-        (
-            Numbers {
-                rates: [-2_000; 17],
-                ..untraded
-            }
-            .bytes(),
-            (4, 0),
-        ),
+        (untraded().bytes(), (4, 0)),
+        (untraded().of_profile(2).bytes(), (4, 0)),
+        (failing.bytes(), (4, 0)),
     ]
 }
 
