@@ -1,4 +1,8 @@
 -- 7 to 10, and else the block's high.
+use mathlib.Core.Path.{sym, ap, _∙_}
+use Prim.Native.Nat.{ℕ}
+use lib.Dec.{leb}
+use Rattle.shift.specs.Shift.{highAtMost}
 use Rattle.grounds.proofs.Chain.{at-verdict}
 use Rattle.shift_search.proofs.Costs.{high-is}
 use borrow.Author.Needs.{needs}
@@ -28,7 +32,8 @@ returns-2 c fs of =
     let worked = at-verdict _ (at-told .enum-told .given .1) (at-worked .from-numbers .ensures .0) in
     let years = at-worked .from-numbers .result .curves .plain .years in
     let high = high-is _ (years .lows) (years .highs) (at-value .value-on .result) (at-value .value-on .ensures .0) (at-value .value-on .ensures .1) fs of in
-    rw (worked, high)
+    let target = at-worked .before .args .target in
+    ap (λ (n : ℕ). leb n target) high ∙ sym (ap (highAtMost fs target) worked)
 
 pub costs-at-most-spec : {M : Type 1} → statement M
 costs-at-most-spec =
