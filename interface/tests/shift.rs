@@ -12,6 +12,7 @@ use reference::journal::turn;
 use reference::market::Market;
 use reference::profiled::in_market;
 use reference::sheet::Sheet;
+use reference::shift::shift_by;
 use reference::shifts::{narrow, refused_at_once, wide, Asked};
 use reference::streams::{low_rates, sheet_bytes, zero_sheet, Random};
 
@@ -129,6 +130,33 @@ fn figures() {
     let exact = within(1, flat(490));
     assert_eq!(found(&exact, &[1, 2, 150, 3, 1, 4], 9), Ok(-490));
     assert_eq!(found(&to_10(&exact), &[1, 2, 150, 3, 1, 4], 8), NONE);
+}
+
+/// The figures of docs/SPECIFICATION.md, 12, from both implementations.
+#[test]
+fn figures_of_the_specification() {
+    let thirty: Vec<u64> = (1..=30).flat_map(|year| [year, 1_000]).collect();
+    let mut unmoved = between_dropped(-2_000, 12_000);
+    unmoved.month = 1;
+    let mut turning = between_dropped(-2_000, 11_998);
+    turning.rates[..15].fill(-1);
+    (turning.ufr, turning.limit) = (0, 1);
+    for (sheet, target, expected) in [
+        (level(0), 19_601, Ok(0)),
+        (level(0), 19_600, Ok(1)),
+        (level(0), 19_000, Ok(249)),
+        (level(0), 1_000_000_000_000, Ok(-500)),
+        (level(0), 0, NONE),
+        (unmoved.clone(), 19_601, Ok(0)),
+        (unmoved, 19_600, NONE),
+        (turning.clone(), 30_000, Ok(1)),
+        (turning, 29_999, NONE),
+    ] {
+        let second = shift_by(&sheet_bytes(&sheet), &thirty, target);
+        let second = second.map_err(|ground| (ground.number.into(), ground.place.into()));
+        assert_eq!(second, expected, "target {target}");
+        assert_eq!(found(&sheet, &thirty, target), expected, "target {target}");
+    }
 }
 
 #[test]
