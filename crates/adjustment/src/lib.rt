@@ -1,5 +1,7 @@
 // The volatility adjustment, equal to the definitions of the crate method (SPECIFICATION 5.6): the years to 20 taken through the
 // year's step, year t t times, and the first of LLFR's forwards raised. E at the adjustment is worked once for each side.
+#![tactic(auto)]
+
 ghost use Rattle.std.specs.Prelude.{◌≡◌, ◌+◌, ◌≤◌, nat_abs};
 ghost use Rattle.method.specs.Quotes.{highest_factor};
 ghost use Rattle.method.specs.Ranges.{logarithm_bound, forward_bound};

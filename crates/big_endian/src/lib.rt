@@ -1,4 +1,6 @@
 // Numbers in bytes, the high byte first.
+#![tactic(auto)]
+
 ghost use Rattle.std.specs.Prelude.{◌≡◌, ◌+◌, ◌*◌, ◌%◌, ◌^◌, ◌≤◌, ◌<◌, length};
 ghost use Rattle.method.specs.Bytes.{big_endian, in_bytes, twos_complement32, put_at};
 

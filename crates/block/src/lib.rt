@@ -1,5 +1,7 @@
 // The cash flows of a block of policies, added by the year, and their value. The borrow checker does not cover a slice of structs, so `block_of`, which
 // takes one, is walked by hand: no branch is in it, and all its work is done by functions on plain numbers.
+#![tactic(auto)]
+
 ghost use Rattle.std.specs.Prelude.{◌≡◌, ◌+◌, ◌*◌, ◌<◌, ◌≤◌, length};
 ghost use Rattle.fraction.specs.Rounding.{U, round_ℕ};
 ghost use Rattle.method.specs.Units.{pair};
@@ -10,21 +12,21 @@ ghost use Rattle.block.specs.Views.{as_flows, paired, block_of, as_block, OfList
 use grounds::{Ground, Verdict};
 
 // A year and whole cents.
-#[derive(Drop)]
+#[derive(Clone, Copy)]
 pub struct Flow {
     pub year: u64,
     pub cents: u64,
 }
 
 // The cents of years 1 to 150, each year's entries added; or why the list is refused. No other crate can build one.
-#[derive(Drop)]
+#[derive(Clone, Copy)]
 pub struct Block {
     verdict: Verdict,
     totals: [u64; 150],
 }
 
 // Whole cents; 0 and 0 where the list is refused.
-#[derive(Drop)]
+#[derive(Clone, Copy)]
 pub struct Worth {
     pub verdict: Verdict,
     pub low: u64,
@@ -155,7 +157,7 @@ pub fn verdict(b: Block) -> Verdict
 // ---- the value
 
 // Sums of products, those of the millions of cents apart from those of the rest, so that neither wraps.
-#[derive(Drop)]
+#[derive(Clone, Copy)]
 struct Products {
     millions: u64,
     rest: u64,

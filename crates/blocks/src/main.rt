@@ -1,5 +1,7 @@
 // Replays the journal of standard input on books with age limits of 5,000, 3 and 2 months, and values seven lists of three cash flows on each: writes, a
 // line for each, the ground's number, or 0, and its place, then low, high, month and age. The file `stdout` is what the second implementation writes.
+#![tactic(auto)]
+
 ghost use Rattle.std.specs.Prelude.{[], ◌∷◌};
 ghost use Rattle.block.specs.Views.{as_flows};
 ghost use Rattle.book.specs.Views.{as_book};

@@ -1,5 +1,7 @@
 // The dated curve book: its age limit, the told month, the curves that stand with their sums, and the sheets that withdrawals bring back. No other crate
 // can build a book or read one, so each came from a list of calls that began with `fresh`.
+#![tactic(auto)]
+
 ghost use Rattle.std.specs.Prelude.{◌≡◌, true, cond, ◌&&◌, ◌-◌, ◌≤◌, leb};
 ghost use Rattle.method.specs.Grounds.{done};
 ghost use Rattle.method.specs.Ranges.{NumbersInRange};
@@ -27,13 +29,13 @@ use sums::Summed;
 pub const LARGEST_AGE_LIMIT: u64 = 2_399;
 
 // Without `has` the curves and the sums are all zero and stand for none.
-#[derive(Drop)]
+#[derive(Clone, Copy)]
 pub struct Standing {
     has: bool,
     summed: Summed,
 }
 
-#[derive(Drop)]
+#[derive(Clone, Copy)]
 pub struct Book {
     age_limit: u64,
     told: u64,
@@ -42,35 +44,35 @@ pub struct Book {
 }
 
 // The curve that a look-up or a page names.
-#[derive(Drop)]
+#[derive(Clone, Copy)]
 pub enum Which {
     Plain,
     Adjusted,
 }
 
 // What a look-up asks for: the year's factor, or the sum of the factors of years 1 to it.
-#[derive(Drop)]
+#[derive(Clone, Copy)]
 pub enum Wanted {
     Factor,
     Sum,
 }
 
 // A post or a turn. The month is 0 where it is refused.
-#[derive(Drop)]
+#[derive(Clone, Copy)]
 pub struct Booked {
     pub verdict: Verdict,
     pub month: u64,
     pub book: Book,
 }
 
-#[derive(Drop)]
+#[derive(Clone, Copy)]
 pub struct Withdrawn {
     pub verdict: Verdict,
     pub book: Book,
 }
 
 // A low and a high, the year's zero rates, in hundred-thousandths of one, and the month and the age of the curve.
-#[derive(Drop)]
+#[derive(Clone, Copy)]
 pub struct Finding {
     pub low: u64,
     pub high: u64,
@@ -81,14 +83,14 @@ pub struct Finding {
 }
 
 // The finding is all zero where the look-up is refused.
-#[derive(Drop)]
+#[derive(Clone, Copy)]
 pub struct Looked {
     pub verdict: Verdict,
     pub finding: Finding,
 }
 
 // Of a block, in cents, with the month and the age of the curve.
-#[derive(Drop)]
+#[derive(Clone, Copy)]
 pub struct Value {
     pub low: u64,
     pub high: u64,
@@ -97,7 +99,7 @@ pub struct Value {
 }
 
 // The value is all zero where the valuation is refused.
-#[derive(Drop)]
+#[derive(Clone, Copy)]
 pub struct Valued {
     pub verdict: Verdict,
     pub value: Value,

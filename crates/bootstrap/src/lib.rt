@@ -1,5 +1,7 @@
 // The liquid part of a curve: the factors of the years to the last quote, at most 50, and the yearly factors of the quotes' gaps, or the
 // first of grounds 7 to 9.
+#![tactic(auto)]
+
 ghost use Rattle.std.specs.Prelude.{◌≡◌, ◌+◌, ◌≤◌, ◌<◌};
 ghost use Rattle.std.specs.Int.Signed.{mag};
 ghost use Rattle.method.specs.Ranges.{Factor};
@@ -20,7 +22,7 @@ const UNIT: u64 = 1_000_000_000;
 const HIGHEST_FACTOR: i64 = 2_000_000_000;
 
 // The first `count` of them, in the order of their maturities.
-#[derive(Drop)]
+#[derive(Clone, Copy)]
 pub struct Quotes {
     pub maturities: [u64; 17],
     pub rates: [i16; 17],
@@ -28,7 +30,7 @@ pub struct Quotes {
 }
 
 // The first `count` factors, and A, their sum; the low and the high yearly factor of the first `gaps` gaps.
-#[derive(Drop)]
+#[derive(Clone, Copy)]
 pub struct Liquid {
     pub lows: [u32; 50],
     pub highs: [u32; 50],
@@ -40,14 +42,14 @@ pub struct Liquid {
 }
 
 // The part before the first quote where the verdict is a refusal.
-#[derive(Drop)]
+#[derive(Clone, Copy)]
 pub struct Bootstrapped {
     pub verdict: Verdict,
     pub liquid: Liquid,
 }
 
 // The part as far as it is worked.
-#[derive(Drop)]
+#[derive(Clone, Copy)]
 struct Step {
     verdict: Verdict,
     liquid: Liquid,

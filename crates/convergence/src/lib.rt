@@ -1,5 +1,7 @@
 // The convergence factor of the phase-in, and κ, the weights of the extrapolated years, equal to the definitions of the crate method
 // (SPECIFICATION 5). Each function that takes `up` works a high with it, and a low without.
+#![tactic(auto)]
+
 ghost use Rattle.std.specs.Prelude.{◌≡◌, ℕ, ◌+◌, ◌*◌, ◌-◌, ◌≤◌, ◌<◌, get_or};
 ghost use Rattle.fraction.specs.Rounding.{U, round_ℕ};
 ghost use Rattle.method.specs.Units.{end_of, pairs_of};
@@ -36,7 +38,7 @@ const K: [u64; 140] = [
 ];
 
 // κ's lows and highs, for h from 1 to 140 at index h - 1.
-#[derive(Drop)]
+#[derive(Clone, Copy)]
 pub struct Weights {
     pub lows: [u64; 140],
     pub highs: [u64; 140],

@@ -1,4 +1,6 @@
 // The curves of years 1 to 150 from a sheet's numbers, the plain one and the adjusted, or the first of grounds 7 to 10.
+#![tactic(auto)]
+
 ghost use Rattle.std.specs.Prelude.{◌≡◌, true, false, ◌&&◌, [], ◌∷◌, ◌-◌, ◌≤◌, leb, take};
 ghost use Rattle.method.specs.Ranges.{logarithm_bound, forward_bound, YearlyFactor, NumbersInRange};
 ghost use Rattle.method.specs.Sheet.{euro, from_ten};
@@ -35,7 +37,7 @@ const YEAR_TEN: usize = 10;
 
 const YEARS: usize = 150;
 
-#[derive(Drop)]
+#[derive(Clone, Copy)]
 pub struct Curve {
     pub month: u64,
     pub limit: u64,
@@ -43,7 +45,7 @@ pub struct Curve {
 }
 
 // Without `adjusts` the adjusted curve is all zero and stands for none.
-#[derive(Drop)]
+#[derive(Clone, Copy)]
 pub struct Curves {
     pub plain: Curve,
     pub adjusts: bool,
@@ -51,14 +53,14 @@ pub struct Curves {
 }
 
 // One curve, all zero where it is refused.
-#[derive(Drop)]
+#[derive(Clone, Copy)]
 struct Single {
     verdict: Verdict,
     curve: Curve,
 }
 
 // The curves are all zero where the numbers are refused.
-#[derive(Drop)]
+#[derive(Clone, Copy)]
 pub struct Worked {
     pub verdict: Verdict,
     pub curves: Curves,
@@ -67,7 +69,7 @@ pub struct Worked {
 // ---- the forwards
 
 // The first ones are the market's, as many as it has volumes.
-#[derive(Drop)]
+#[derive(Clone, Copy)]
 struct Stretched {
     verdict: Verdict,
     forwards: Forwards,

@@ -1,4 +1,6 @@
 // The desk: reads records from standard input and answers each with a line on standard output.
+#![tactic(auto)]
+
 use libc::{STDIN_FILENO, STDOUT_FILENO};
 
 fn main() {

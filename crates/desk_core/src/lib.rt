@@ -1,4 +1,6 @@
 // The desk: records in, a line for each out, through a block and a text of constant size.
+#![tactic(auto)]
+
 mod lines;
 
 ghost use Rattle.std.specs.Prelude.{◌≡◌, ◌+◌, ◌-◌, ◌<◌, ◌≤◌, min, length, take, drop};
@@ -19,7 +21,7 @@ const LINE_ROOM: usize = 128;
 const MOST_READ: usize = 4_096;
 
 // Between two passes: the book, how many bytes of the block are held, and the offset of the first of them.
-#[derive(Drop)]
+#[derive(Clone, Copy)]
 struct Desk {
     book: Book,
     offset: u64,
@@ -28,7 +30,7 @@ struct Desk {
 
 // The book after the whole records at the front of the bytes held, how many bytes they take and how many their lines have; whether
 // an unknown kind is next.
-#[derive(Drop)]
+#[derive(Clone, Copy)]
 struct Served {
     book: Book,
     taken: usize,
@@ -37,7 +39,7 @@ struct Served {
 }
 
 // The desk after a pass, and the rest of what it served.
-#[derive(Drop)]
+#[derive(Clone, Copy)]
 struct Passed {
     desk: Desk,
     taken: usize,

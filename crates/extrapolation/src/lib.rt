@@ -1,5 +1,7 @@
 // LLFR and the extrapolated years, equal to the definitions of the crate method (SPECIFICATION 5). Each function that takes `up`
 // works a high with it, and a low without.
+#![tactic(auto)]
+
 ghost use Rattle.std.specs.Prelude.{◌≡◌, map, ℕ, ◌*◌, ◌-◌, ◌≤◌, ◌<◌, pos, nat_abs, ◌*ℤ◌, get_or};
 ghost use Rattle.fraction.specs.Rounding.{U, round_ℤ};
 ghost use Rattle.method.specs.Units.{pair, pairs_of};
@@ -24,7 +26,7 @@ const SIGNED_UNIT: i64 = 1_000_000_000;
 const HIGHEST_FACTOR: u64 = 2_000_000_000;
 
 // The forwards of five gaps.
-#[derive(Drop)]
+#[derive(Clone, Copy)]
 pub struct Forwards {
     pub lows: [i64; 5],
     pub highs: [i64; 5],
@@ -176,14 +178,14 @@ fn next_year(l: SignedPair, f: SignedPair, k: Pair, p: Pair) -> Pair
 // ---- the years
 
 // Years 1 to 150, at index t - 1.
-#[derive(Drop)]
+#[derive(Clone, Copy)]
 pub struct Years {
     pub lows: [u32; 150],
     pub highs: [u32; 150],
 }
 
 // The years are as they came where one is refused.
-#[derive(Drop)]
+#[derive(Clone, Copy)]
 pub struct Extended {
     pub verdict: Verdict,
     pub years: Years,

@@ -1,1 +1,3 @@
 // Exact fractions, rounding and enclosure: definitions in specs/, laws in proofs/. No function.
+#![tactic(auto)]
+

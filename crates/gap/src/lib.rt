@@ -1,5 +1,7 @@
 // A quoted year by par, and a gap between two quotes: the trial at a yearly factor, its two tests against par, and the halving
 // for the low and the high yearly factor.
+#![tactic(auto)]
+
 ghost use Rattle.std.specs.Prelude.{◌≡◌, true, ◌&&◌, ◌*◌, ◌-◌, ◌≤◌, pos, nat_abs, ◌+ℤ◌, ◌<ℤ◌};
 ghost use Rattle.std.specs.Int.Signed.{mag};
 ghost use Rattle.fraction.specs.Rounding.{U, round_ℕ};
@@ -27,7 +29,7 @@ const UPPER_END: u64 = 1_100_000_000;
 // In a trial of so many years every product of T and x fits 64 bits.
 const SHORT: u64 = 20;
 
-#[derive(Drop)]
+#[derive(Clone, Copy)]
 pub struct Gap {
     pub rate: i64,
     pub years: u64,
@@ -36,14 +38,14 @@ pub struct Gap {
 }
 
 // S and Tk of a trial.
-#[derive(Drop)]
+#[derive(Clone, Copy)]
 struct Sums {
     total: u64,
     last: u64,
 }
 
 // The two sides of a comparison with par: the part of a rate below 0 stands on par's.
-#[derive(Drop)]
+#[derive(Clone, Copy)]
 struct Sides {
     paid: u64,
     par: u64,

@@ -1,10 +1,12 @@
 // The grounds for turning a call down, declared once, and the verdict that stands beside a value.
+#![tactic(auto)]
+
 ghost use Rattle.std.specs.Prelude.{◌≡◌};
 ghost use Rattle.method.specs.Grounds.{number_of, place_of};
 ghost use Rattle.grounds.specs.Verdicts.{as_ground, verdict_number, verdict_place};
 
 // With its place: a record, from 1, a year, or an entry of a list, from 1.
-#[derive(Drop)]
+#[derive(Clone, Copy)]
 pub enum Ground {
     WrongLength,
     WrongRecord(u64),
@@ -31,7 +33,7 @@ pub enum Ground {
     NoShift,
 }
 
-#[derive(Drop)]
+#[derive(Clone, Copy)]
 pub enum Verdict {
     Passed,
     Refused(Ground),

@@ -1,4 +1,6 @@
 // The sheets that a book keeps: the one that stands, and those that withdrawals bring back.
+#![tactic(auto)]
+
 ghost use Rattle.std.specs.Prelude.{◌≡◌, ◌≤◌, ◌<◌, length};
 ghost use Rattle.method.specs.Curve.{none, some};
 ghost use Rattle.ledger.specs.History.{no_posts, with_post, way_back};
@@ -14,14 +16,14 @@ pub const LONGEST: u64 = 117;
 const DEEPEST: u64 = 3;
 
 // A length of 0 is no sheet.
-#[derive(Drop)]
+#[derive(Clone, Copy)]
 pub struct Kept {
     pub length: u64,
     pub bytes: [u8; 117],
 }
 
 // The sheet that stands, and as many ways back as the depth says, the latest first; a depth above 3 counts as 3.
-#[derive(Drop)]
+#[derive(Clone, Copy)]
 pub struct History {
     pub sheet: Kept,
     depth: u64,
@@ -31,7 +33,7 @@ pub struct History {
 }
 
 // The history is as it was where the withdrawal is refused.
-#[derive(Drop)]
+#[derive(Clone, Copy)]
 pub struct Back {
     pub verdict: Verdict,
     pub history: History,

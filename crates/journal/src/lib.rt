@@ -1,4 +1,6 @@
 // Records, calls written as bytes: the call at the front of some bytes, made on a book.
+#![tactic(auto)]
+
 ghost use Rattle.std.specs.Prelude.{◌≡◌, ◌≤◌, length, get_or};
 ghost use Rattle.ledger.specs.Calls.{withdrawal};
 ghost use Rattle.book.specs.Views.{as_book};
@@ -10,7 +12,7 @@ use book::{Book, Finding, Wanted, Which};
 use grounds::Verdict;
 
 // What was called; or why nothing was.
-#[derive(Drop)]
+#[derive(Clone, Copy)]
 pub enum Reply {
     Posted,
     Turned,
@@ -21,7 +23,7 @@ pub enum Reply {
 }
 
 // The month is a post's or a turn's, the finding a look-up's; all zero elsewhere. `taken` is the record's length, 0 without a call.
-#[derive(Drop)]
+#[derive(Clone, Copy)]
 pub struct Made {
     pub reply: Reply,
     pub verdict: Verdict,
@@ -32,7 +34,7 @@ pub struct Made {
 }
 
 // A look-up's record at the front of some bytes; where none is, all else is zero.
-#[derive(Drop)]
+#[derive(Clone, Copy)]
 pub struct Asked {
     pub is_look: bool,
     pub year: u64,

@@ -1,5 +1,7 @@
 // Writes a page into a lent buffer: the head, then year by year each record straight to its own ten bytes. Once years 1 to t are
 // written, the first 5 + 10 t bytes are the page's and all others still as lent; every such state ends a function whose contract says so.
+#![tactic(auto)]
+
 ghost use Rattle.std.specs.Prelude.{◌≡◌, ◌≤◌, ◌<◌, length};
 ghost use Rattle.ledger.specs.Page.{year_record, page_bytes, page_length};
 ghost use Rattle.page_writer.specs.Written.{written_to, Begun, Bands, Underway, OneYearOn};

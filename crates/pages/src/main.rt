@@ -2,6 +2,8 @@
 // adjusted one, into the first 0, 1,504, 1,505 and 2,000 bytes of 2,000 lent sevens: writes the ground's number, or 0, and all 2,000
 // bytes. Then, of one more page, all bytes of 1,506 lent sevens once years 1 to t are written, t being 0, 1, 2, 75, 149 and 150. The
 // file `stdout` is what the second implementation writes.
+#![tactic(auto)]
+
 ghost use Rattle.std.specs.Prelude.{◌≤◌};
 
 use book::Which;

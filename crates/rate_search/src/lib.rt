@@ -1,6 +1,8 @@
 // The search for the annual zero rates of a year's band. A rate is counted by its multiplier, 100,000 more. Either rate stands where
 // the growth over the years comes to pass a bound: the low one at the last multiplier whose growth, rounded up, is within it, the high
 // one at the first whose growth, rounded down, is past it.
+#![tactic(auto)]
+
 ghost use Rattle.std.specs.Prelude.{◌≡◌, ◌*◌, ◌<◌, ◌≤◌, min, true};
 ghost use Rattle.fraction.specs.Rounding.{round_ℕ};
 ghost use Rattle.method.specs.Units.{pair, rate_unit};
@@ -24,14 +26,14 @@ const CAP: u64 = 1_000_000_000_000_000_001;
 const RATE_UNIT: u64 = 100_000;
 
 // At multipliers next to each other.
-#[derive(Drop)]
+#[derive(Clone, Copy)]
 struct Growths {
     here: u64,
     next: u64,
 }
 
 // All zero where there is no high rate.
-#[derive(Drop)]
+#[derive(Clone, Copy)]
 pub struct Rated {
     pub verdict: Verdict,
     pub rates: SignedPair,

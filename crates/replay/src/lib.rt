@@ -1,5 +1,7 @@
 // The book after the calls of a journal, made with an age limit, and what is then answered: for programs in Rattle, and in C by include/tuyqorem.h. In C
 // also the shift that meets a target, for which there is no book.
+#![tactic(auto)]
+
 ghost use Rattle.std.specs.Prelude.{◌≡◌, ◌++◌, ◌+◌, ◌*◌, ◌≤◌, length, drop};
 ghost use Rattle.shift.specs.Meaning.{ShiftTells};
 ghost use Rattle.ledger.specs.Calls.{look_at, page_into, value_of};

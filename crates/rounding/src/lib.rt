@@ -1,5 +1,7 @@
 // A low and a high, and quotients rounded to either side: up for a high, down for a low. Each function that takes `up` works a
 // high with it, and a low without.
+#![tactic(auto)]
+
 ghost use Rattle.std.specs.Prelude.{◌≡◌, ◌+◌, ◌*◌, ◌/◌, ◌^◌, ◌≤◌, ◌<◌, min, pos, nat_abs, ◌<ℤ◌};
 ghost use Rattle.fraction.specs.Rounding.{U, floor, ceiling, round_ℤ, round_ℕ};
 ghost use Rattle.method.specs.Units.{end_of};
@@ -9,14 +11,14 @@ ghost use Rattle.rounding.specs.Pairs.{as_pair};
 const UNIT: u64 = 1_000_000_000;
 
 // Factors and yearly factors.
-#[derive(Drop)]
+#[derive(Clone, Copy)]
 pub struct Pair {
     pub low: u64,
     pub high: u64,
 }
 
 // Logarithms and forwards, of either sign.
-#[derive(Drop)]
+#[derive(Clone, Copy)]
 pub struct SignedPair {
     pub low: i64,
     pub high: i64,

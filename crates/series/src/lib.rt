@@ -1,5 +1,7 @@
 // The logarithm G and the growth E, equal to the definitions of the crate method (SPECIFICATION 4). Each function that takes `up`
 // works a high with it, and a low without.
+#![tactic(auto)]
+
 ghost use Rattle.std.specs.Prelude.{◌≡◌, ◌+◌, ◌-◌, ◌≤◌, ◌<◌};
 ghost use Rattle.fraction.specs.Rounding.{U, round_ℕ};
 ghost use Rattle.method.specs.Ranges.{logarithm_bound, growth_range, growth_bound, YearlyFactor};

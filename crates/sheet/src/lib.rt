@@ -1,4 +1,6 @@
 // Reads a typed sheet of any bytes: its numbers, or the first of grounds 19 and 1 to 4.
+#![tactic(auto)]
+
 ghost use Rattle.std.specs.Prelude.{◌≡◌, true, cond, map, ◌+◌, ◌^◌, ◌<◌, ◌≤◌, ltb, pos, nat_abs, length, take, drop, get_or};
 ghost use Rattle.std.specs.Int.Signed.{non_neg};
 ghost use Rattle.method.specs.Grounds.{refused};
@@ -13,7 +15,7 @@ ghost use Rattle.sheet.specs.Records.{MarketOf, FirstBytes, Due, end_of, in_kind
 use grounds::{Ground, Verdict};
 
 // The euro, or a market that smooths from 10 or from 15.
-#[derive(Drop)]
+#[derive(Clone, Copy)]
 pub enum Profile {
     Euro,
     FromTen,
@@ -21,7 +23,7 @@ pub enum Profile {
 }
 
 // The first rates and volumes, as many as the market has.
-#[derive(Drop)]
+#[derive(Clone, Copy)]
 pub struct Numbers {
     pub profile: Profile,
     pub month: u64,
@@ -35,14 +37,14 @@ pub struct Numbers {
 }
 
 // The numbers are all zero where the sheet is refused.
-#[derive(Drop)]
+#[derive(Clone, Copy)]
 pub struct ReadSheet {
     pub verdict: Verdict,
     pub numbers: Numbers,
 }
 
 // How many of the maturities a market quotes, and which of them, from 0, is the smoothing year.
-#[derive(Drop)]
+#[derive(Clone, Copy)]
 pub struct Market {
     pub quotes: usize,
     pub smoothing: usize,
@@ -50,7 +52,7 @@ pub struct Market {
 
 // Which records a sheet has: whether the profile's stands first, and the profile; whether the phase-in's follows the limit's, and whether
 // the adjustment's stands last.
-#[derive(Drop)]
+#[derive(Clone, Copy)]
 pub struct Layout {
     pub led: bool,
     pub profile: Profile,
@@ -58,7 +60,7 @@ pub struct Layout {
     pub adjusts: bool,
 }
 
-#[derive(Drop)]
+#[derive(Clone, Copy)]
 pub enum Kind {
     Month,
     Rate,
@@ -71,14 +73,14 @@ pub enum Kind {
 }
 
 // What is due at one place of the sheet.
-#[derive(Drop)]
+#[derive(Clone, Copy)]
 pub struct Entry {
     pub kind: Kind,
     pub maturity: u64,
 }
 
 // The same, with the byte at which the record starts.
-#[derive(Drop)]
+#[derive(Clone, Copy)]
 pub struct Slot {
     pub kind: Kind,
     pub maturity: u64,
@@ -86,15 +88,15 @@ pub struct Slot {
 }
 
 // What a kind fixes: its byte, and how many bytes of the body are the maturity's and how many the number's.
-#[derive(Drop)]
+#[derive(Clone, Copy)]
 struct Form(u8, usize, usize);
 
 // The lowest number and the highest.
-#[derive(Drop)]
+#[derive(Clone, Copy)]
 struct Range(i64, i64);
 
 // One record: whether its kind and maturity are due, whether its number is in range, the number, and the byte after the record.
-#[derive(Drop)]
+#[derive(Clone, Copy)]
 struct Reading {
     right: bool,
     inside: bool,
@@ -104,7 +106,7 @@ struct Reading {
 
 // All records: the places of the first wrong one and of the first number outside, from 1; 0 where there is none.
 // As many numbers count as the layout has records.
-#[derive(Drop)]
+#[derive(Clone, Copy)]
 struct Records {
     wrong: u64,
     outside: u64,

@@ -1,5 +1,7 @@
 // The smallest shift of a sheet's quotes at which a block's high is at most a target. Every shift is tried in its turn, from -500 up: neither the
 // rounding nor grounds 7 to 10 leave an order among those that do.
+#![tactic(auto)]
+
 ghost use Rattle.std.specs.Prelude.{◌≡◌, true, ◌&&◌, ℕ, ◌≤◌, pos, nat_abs, take, get_or};
 ghost use Rattle.std.specs.Int.Signed.{le_z};
 ghost use Rattle.method.specs.Sheet.{rate, lowest, highest};
@@ -14,21 +16,21 @@ use grounds::{Ground, Verdict};
 use sheet::Numbers;
 
 // In hundred-thousandths; 0 where none is answered.
-#[derive(Drop)]
+#[derive(Clone, Copy)]
 pub struct Shift {
     pub verdict: Verdict,
     pub shift: i64,
 }
 
 // Where a quote leaves its range the rates stand for nothing.
-#[derive(Drop)]
+#[derive(Clone, Copy)]
 struct ShiftedRates {
     inside: bool,
     rates: [i16; 17],
 }
 
 // Where a quote leaves its range the numbers stand for nothing.
-#[derive(Drop)]
+#[derive(Clone, Copy)]
 struct Shifted {
     inside: bool,
     numbers: Numbers,

@@ -1,6 +1,8 @@
 // Takes two sheets from standard input, the first being its first 109 bytes, and writes the shifts at which a block meets targets, and what lists and sheets
 // that are turned down are answered: a line for each, the ground's number, or 0, and its place, then the shift in 16 bits of two's complement. The file
 // `stdout` is what the second implementation writes.
+#![tactic(auto)]
+
 use libc::{STDIN_FILENO, STDOUT_FILENO};
 use shift_search::Shift;
 

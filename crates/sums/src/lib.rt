@@ -1,4 +1,6 @@
 // The annuity sums of curves: for each year t the sum of the lows of years 1 to t, and that of the highs.
+#![tactic(auto)]
+
 ghost use Rattle.std.specs.Prelude.{◌≡◌, false, ◌-◌, length, get_or};
 ghost use Rattle.ledger.specs.Sums.{running_from, sums_of, sums_of_held, summed};
 ghost use Rattle.curve.specs.Curves.{as_curve, as_held, as_curves};
@@ -8,14 +10,14 @@ use curve::{Curve, Curves};
 
 const YEARS: usize = 150;
 
-#[derive(Drop)]
+#[derive(Clone, Copy)]
 pub struct Sums {
     pub lows: [u64; 150],
     pub highs: [u64; 150],
 }
 
 // Without an adjusted curve its sums are all zero and stand for none.
-#[derive(Drop)]
+#[derive(Clone, Copy)]
 pub struct Summed {
     pub curves: Curves,
     pub plain: Sums,

@@ -1,5 +1,7 @@
 // The quotes that a sheet's volumes leave, and for each stretch between two quotes its x: that of the used gap that it lies in, or where it
 // is a quoted year alone that year over the one before.
+#![tactic(auto)]
+
 ghost use Rattle.std.specs.Prelude.{◌≡◌, false, cond, ◌+◌, ◌≤◌, ◌<◌, ltb, take, drop, get_or};
 ghost use Rattle.fraction.specs.Rounding.{U};
 ghost use Rattle.method.specs.Units.{pair};

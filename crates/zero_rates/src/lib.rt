@@ -1,1 +1,3 @@
 // The annual zero rates of a year's band: definitions and theorems, no function.
+#![tactic(auto)]
+

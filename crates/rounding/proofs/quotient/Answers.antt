@@ -1,0 +1,7 @@
+-- By the side; each is the definition itself, whose sum does not wrap.
+use mathlib.Core.Path.{refl}
+use borrow.Author.Rules.{rules}
+use Rattle.rounding.proofs.quotient.Goals as goal
+
+pub returns-else-up : goal.returns-else-up
+returns-else-up c = rw c.if-up.false refl
