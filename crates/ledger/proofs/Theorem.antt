@@ -245,7 +245,7 @@ module _ (told : ℕ) (s : List ℕ) (g : Sound told s) (limit : ℕ) (ht : told
           worth_tells = worth_tells;
           found = rw e value_is;
           holds_true = λ p d n.
-              (worth_tells.values_only p d).2.Holds-exact (true_factor plain n (typed s)) (λ y h k. (band_of_lem told s g plain refl y h k).holds_true_factor n);
+              (worth_tells.values_only p d).2.holds_exact (true_factor plain n (typed s)) (λ y h k. (band_of_lem told s g plain refl y h k).holds_true_factor n);
           bands = band_of_lem told s g plain refl;
         }
 
