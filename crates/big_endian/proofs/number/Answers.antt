@@ -1,8 +1,5 @@
-use Prim.Native.Nat.{◌-◌}
 use native.Mathlib.Omega.{arith}
-use lib.ListN.{length}
-use borrow.Author.Rules.{rules}
-use Rattle.big_endian.proofs.Gathering.{Gathered, gathered_none, gathered_more, gathered_room, gathered_all}
+use Rattle.big_endian.proofs.Gathering.{gathered_more, gathered_room, gathered_all}
 use Rattle.big_endian.proofs.number.Goals as goal
 
 pub overflow_mul-n : goal.overflow_mul-n

@@ -1,9 +1,7 @@
 -- Invariant: what is left of the bytes, read on from the number so far, is the whole.
 use Prim.Native.Nat.{◌-◌}
-use native.Mathlib.Omega.{arith}
 use lib.ListN.{length}
-use borrow.Author.Rules.{rules}
-use Rattle.big_endian.proofs.Gathering.{Gathered, gathered_none, gathered_more, gathered_room, gathered_all}
+use Rattle.big_endian.proofs.Gathering.{Gathered}
 use Rattle.big_endian.proofs.number.Given as goal
 
 abbrev pub invariant-loop-i : goal.invariant-loop-i

@@ -1,10 +1,8 @@
-use mathlib.Core.Path.{◌≡◌, refl, sym, ◌∙◌}
-use mathlib.Core.List.{List}
-use Prim.Native.Nat.{ℕ, suc, ◌-◌, ◌≤◌}
+use mathlib.Core.Path.{◌≡◌, sym, ◌∙◌}
+use Prim.Native.Nat.{suc, ◌-◌}
 use native.Mathlib.Omega.{arith}
-use lib.ListN.{length, length-set}
-use borrow.Author.Rules.{rules}
-use Rattle.method.specs.Bytes.{in_bytes, put_at}
+use lib.ListN.{length-set}
+use Rattle.method.specs.Bytes.{in_bytes}
 use Rattle.big_endian.proofs.Putting.{put_none, put_low_byte}
 use Rattle.big_endian.proofs.put.Goals as goal
 

@@ -1,12 +1,9 @@
 -- Invariant: what is left to write, put into the buffer as it now is, gives the whole.
-use mathlib.Core.Path.{◌≡◌, refl, sym, ◌∙◌}
+use mathlib.Core.Path.{◌≡◌}
 use mathlib.Core.List.{List}
-use Prim.Native.Nat.{ℕ, suc, ◌-◌, ◌≤◌}
-use native.Mathlib.Omega.{arith}
-use lib.ListN.{length, length-set}
-use borrow.Author.Rules.{rules}
+use Prim.Native.Nat.{ℕ, ◌≤◌}
+use lib.ListN.{length}
 use Rattle.method.specs.Bytes.{in_bytes, put_at}
-use Rattle.big_endian.proofs.Putting.{put_none, put_low_byte}
 use Rattle.big_endian.proofs.put.Given as goal
 
 pub record Left (n width at : ℕ) (out₀ out : List ℕ) (rest left : ℕ) : Type 0 where

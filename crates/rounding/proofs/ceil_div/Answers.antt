@@ -1,5 +1,5 @@
 -- The quotient toward zero is the ceiling, or one below it where the remainder is above 0 (Division.antt).
-use Rattle.rounding.proofs.Division.{ceiling_rounds, Operands, divides, stepped_fits, stepped_rounds, kept_rounds}
+use Rattle.rounding.proofs.Division.{ceiling_rounds, Operands, stepped_rounds, kept_rounds}
 use Rattle.rounding.proofs.ceil_div.Goals as goal
 use Rattle.rounding.proofs.ceil_div.Goals.{Start}
 

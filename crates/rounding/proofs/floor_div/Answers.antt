@@ -1,5 +1,5 @@
 -- The quotient toward zero is the floor, or one above it where the remainder is below 0 (Division.antt).
-use Rattle.rounding.proofs.Division.{floor_rounds, Operands, divides, stepped_fits, stepped_rounds, kept_rounds}
+use Rattle.rounding.proofs.Division.{floor_rounds, Operands, stepped_rounds, kept_rounds}
 use Rattle.rounding.proofs.floor_div.Goals as goal
 use Rattle.rounding.proofs.floor_div.Goals.{Start}
 

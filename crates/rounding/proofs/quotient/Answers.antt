@@ -1,6 +1,5 @@
 -- By the side; each is the definition itself, whose sum does not wrap.
 use mathlib.Core.Path.{refl}
-use borrow.Author.Rules.{rules}
 use Rattle.rounding.proofs.quotient.Goals as goal
 
 pub returns-else-up : goal.returns-else-up
