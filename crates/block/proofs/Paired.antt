@@ -1,5 +1,5 @@
 -- Plain numbers, year and cents in turn, as a list of entries: how many there are, and which. `Done` is the loop's invariant: the
--- block is `after` as many entries as the loop has made, as in the walk of `block_of`.
+-- block is `after` as many entries as the loop has made, as in `block_of`.
 use mathlib.Core.List.{List, [], ◌∷◌}
 use mathlib.Core.Path.{◌≡◌, refl, sym, ap, subst, subst⁻¹, ◌∙◌}
 use Prim.Native.Nat.{ℕ, zero, suc, ◌+◌, ◌*◌, ◌/◌, ◌%◌, ◌≤◌, ◌<◌}

@@ -1,5 +1,5 @@
 -- The block's code, as the valuation's: flows, and the totals of a list or why it is refused.
-use Rattle.std.specs.Prelude.{Bool, cond, List, [], ◌∷◌, map, ◌≡◌, ℕ, zero, suc, ◌+◌, ◌*◌, ◌-◌, ◌%◌, eqb, length, get_or, set, replicate}
+use Rattle.std.specs.Prelude.{cond, List, [], ◌∷◌, map, ◌≡◌, ℕ, zero, suc, ◌+◌, ◌*◌, ◌-◌, ◌%◌, eqb, length, get_or, set, replicate}
 use Rattle.method.specs.Units.{Pair, pair}
 use Rattle.method.specs.Grounds.{Outcome, done, ◌>>=◌}
 use Rattle.valuation.specs.Block as valuation

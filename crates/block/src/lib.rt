@@ -1,5 +1,4 @@
-// The cash flows of a block of policies, added by the year, and their value. The borrow checker does not cover a slice of structs, so `block_of`, which
-// takes one, is walked by hand: no branch is in it, and all its work is done by functions on plain numbers.
+// The cash flows of a block of policies, added by the year, and their value.
 #![tactic(auto)]
 
 ghost use Rattle.std.specs.Prelude.{◌≡◌, ◌+◌, ◌*◌, ◌<◌, ◌≤◌, length};
@@ -106,7 +105,7 @@ fn closed(b: Block, n: usize) -> Block
 
 // ---- the list
 
-// The one thin walk.
+// The entries in the list's order, then the test that there is one.
 pub fn block_of(flows: &[Flow]) -> Block
     ensures { as_block result ≡ block_of (as_flows flows.now) }
 {
