@@ -1,5 +1,6 @@
 -- A year's growth in 64 bits: cut where it is past every bound.
-use Rattle.std.proofs.Common.{◌≡◌, ℕ, zero, suc, ◌-◌, ◌*◌, ◌<◌, ◌≤◌, min, Bool, true, false, leb, refl, le_trans, le_refl, mul-le-mul_left, le-div_iff_mul-le, arith, lit<, leb-false, leb-true}
+use Rattle.std.proofs.Common.{◌≡◌, ℕ, zero, suc, ◌*◌, ◌<◌, ◌≤◌, min, Bool, true, false, leb}
+use Rattle.std.proofs.Common.{refl, le_trans, le_refl, mul-le-mul_left, le-div_iff_mul-le, arith, lit<, leb-false, leb-true}
 use native.Mathlib.Nat.{min-eq_left}
 use Rattle.fraction.specs.Rounding.{U, round_ℕ}
 use Rattle.method.specs.Units.{rate_unit}

@@ -1,5 +1,6 @@
 -- Where the growth passes the bound, by the growths that are cut; and that the definitions' halvings stop there.
-use Rattle.std.proofs.Common.{◌≡◌, ℕ, ◌+◌, ◌-◌, ◌*◌, ◌/◌, ◌<◌, ◌≤◌, Bool, true, false, not, ◌&&◌, ◌||◌, ltb, leb, sym, ap, ◌∙◌, le-div_iff_mul-le, arith, le-ltb, lt-ltb, le-leb, leb-false, leb-true}
+use Rattle.std.proofs.Common.{◌≡◌, ℕ, ◌+◌, ◌-◌, ◌*◌, ◌/◌, ◌<◌, ◌≤◌, Bool, true, false, not, ◌&&◌, ◌||◌, ltb, leb}
+use Rattle.std.proofs.Common.{sym, ap, ◌∙◌, le-div_iff_mul-le, arith, le-ltb, lt-ltb, le-leb, leb-false, leb-true}
 use borrow.Author.Tests.{lt-leb, not-true, not-false}
 use Rattle.method.specs.Units.{Pair, pair}
 use Rattle.method.specs.Grounds.{no_high_rate, refused}
