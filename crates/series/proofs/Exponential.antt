@@ -41,7 +41,8 @@ unfolding growth
 at_start y up = record { turns = omega arith; started = omega arith; term = omega arith; whole = refl }
 
 module _ {y : ℕ} {up : Bool} {t sum i : ℕ} (d : Grown y up t sum i) where
-  more : i < 8 → growth_sum (round_ℕ up) y i t (8 - i) ≡ round_ℕ up (t * y) (i * U) + growth_sum (round_ℕ up) y (i + 1) (round_ℕ up (t * y) (i * U)) (8 - (i + 1))
+  more : i < 8 → growth_sum (round_ℕ up) y i t (8 - i)
+      ≡ round_ℕ up (t * y) (i * U) + growth_sum (round_ℕ up) y (i + 1) (round_ℕ up (t * y) (i * U)) (8 - (i + 1))
   unfolding growth_sum
   more h =
       let k : 8 - i ≡ suc (8 - (i + 1)) = omega arith in

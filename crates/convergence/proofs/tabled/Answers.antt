@@ -16,7 +16,9 @@ table-length : (c : After-table-lows) → length c.table-lows.result ≡ 140
 table-length c = search rules
 
 table_is : (c : After-table-lows) → c.table-lows.result ≡ table
-table_is c = ext_get_or 0 c.table-lows.result table (table-length c ∙ sym method.table-length) (λ i h. (c.table-lows.ensures i (rw (table-length c) at h)).tabled)
+table_is c =
+    let long = table-length c in
+    ext_get_or 0 c.table-lows.result table (long ∙ sym method.table-length) (λ i h. (c.table-lows.ensures i (rw long at h)).tabled)
 
 pub loop-i-preserved : goal.loop-i-preserved
 loop-i-preserved c =
