@@ -16,7 +16,6 @@ use Rattle.extrapolation.specs.Extrapolated.{as_years}
 use Rattle.curve.specs.Curves.{no_curve, quoted_in, forwards_in, curve_from}
 use Rattle.curve.proofs.Laws.{years_refused, years_adjusted}
 use Rattle.curve.proofs.Extending.{raised_in, adjusted_to_20, liquid_usable}
-use borrow.Author.Rules.{rules}
 use Rattle.curve.proofs.adjusted.Goals as goal
 use Rattle.curve.proofs.adjusted.Goals.{Start, After-adjusted_years-lowered, After-llfr_of-f}
 

@@ -9,7 +9,7 @@ use Rattle.sheet.specs.Views.{as_numbers}
 use Rattle.extrapolation.specs.Extrapolated.{as_later}
 use Rattle.curve.specs.Curves.{no_curve, quoted_in}
 use Rattle.curve.proofs.Laws.{later_years, later_refused, years_banded}
-use Rattle.curve.proofs.Extending.{quoted_count, ahead_at, last_at, kept_quoted, later_is}
+use Rattle.curve.proofs.Extending.{quoted_count, kept_quoted, later_is}
 use borrow.Author.Rules.{rules}
 use Rattle.curve.proofs.extended.Goals as goal
 use Rattle.curve.proofs.extended.Goals.{After-extrapolate-extended}

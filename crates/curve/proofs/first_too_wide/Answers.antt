@@ -1,14 +1,6 @@
-use mathlib.Core.Path.{◌≡◌, refl, sym, ◌∙◌}
-use Prim.Native.Nat.{ℕ, ◌-◌, ◌≤◌}
+use mathlib.Core.Path.{sym, ◌∙◌}
 use native.Mathlib.Omega.{arith}
-use lib.ListN.{length}
-use borrow.Author.Rules.{rules}
-use Rattle.method.specs.Extrapolation.{first_too_wide}
-use Rattle.extrapolation.specs.declared.Years.{Years}
-use Rattle.extrapolation.specs.Extrapolated.{as_years}
-use Rattle.curve.proofs.TooWide.{wide_from, narrow_here, wide_here, none_left}
-use Rattle.curve.proofs.first_too_wide.Reads as reads
-use Rattle.curve.proofs.first_too_wide.Lts as lts
+use Rattle.curve.proofs.TooWide.{narrow_here, wide_here, none_left}
 use Rattle.curve.proofs.first_too_wide.Goals as goal
 
 pub returns-then-limit-band : goal.returns-then-limit-band

@@ -1,15 +1,11 @@
 -- Invariant: no year before the one that the loop has come to is too wide.
-use mathlib.Core.Path.{◌≡◌, refl, sym, ◌∙◌}
+use mathlib.Core.Path.{◌≡◌}
 use Prim.Native.Nat.{ℕ, ◌-◌, ◌≤◌}
-use native.Mathlib.Omega.{arith}
 use lib.ListN.{length}
-use borrow.Author.Rules.{rules}
 use Rattle.method.specs.Extrapolation.{first_too_wide}
 use Rattle.extrapolation.specs.declared.Years.{Years}
 use Rattle.extrapolation.specs.Extrapolated.{as_years}
-use Rattle.curve.proofs.TooWide.{wide_from, narrow_here, wide_here, none_left}
-use Rattle.curve.proofs.first_too_wide.Reads as reads
-use Rattle.curve.proofs.first_too_wide.Lts as lts
+use Rattle.curve.proofs.TooWide.{wide_from}
 use Rattle.curve.proofs.first_too_wide.Given as goal
 
 pub record Left (limit : ℕ) (years : Years) (i : ℕ) : Type 0 where

@@ -1,14 +1,9 @@
 -- Invariant: the zeros, with as many of the factors as the loop has copied.
-use mathlib.Core.Path.{◌≡◌, refl}
-use Prim.Native.Nat.{ℕ, ◌-◌, ◌≤◌}
-use native.Mathlib.Omega.{arith}
-use lib.ListN.{length, replicate}
-use borrow.Author.Rules.{rules}
+use Prim.Native.Nat.{ℕ, ◌-◌}
+use lib.ListN.{replicate}
 use Rattle.bootstrap.specs.declared.Liquid.{Liquid}
 use Rattle.extrapolation.specs.declared.Years.{Years}
-use Rattle.method.proofs.Copying.{Copied, copied_none, copied_more, copied_all}
-use Rattle.curve.proofs.first_years.Reads as reads
-use Rattle.curve.proofs.first_years.Lts as lts
+use Rattle.method.proofs.Copying.{Copied}
 use Rattle.curve.proofs.first_years.Given as goal
 
 pub record BothCopied (q : Liquid) (years : Years) (year i : ℕ) : Type 0 where

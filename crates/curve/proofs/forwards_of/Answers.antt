@@ -1,6 +1,6 @@
 -- By the market.
 use mathlib.Core.Path.{◌≡◌, ap, sym, subst⁻¹, ◌∙◌}
-use mathlib.Core.List.{List, [], ◌∷◌}
+use mathlib.Core.List.{[], ◌∷◌}
 use lib.ListN.{get_or, drop}
 use lib.Seq.{get_or-drop}
 use Rattle.fraction.specs.Rounding.{U}
@@ -11,7 +11,6 @@ use Rattle.method.specs.Series.{gap_forward}
 use Rattle.sheet.specs.Views.{as_profile}
 use Rattle.bootstrap.specs.Liquids.{as_bootstrap}
 use Rattle.curve.proofs.Extending.{from_15, x_in_range, one_stretch}
-use borrow.Author.Rules.{rules}
 use Rattle.curve.proofs.forwards_of.Goals as goal
 use Rattle.curve.proofs.forwards_of.Goals.{After-gap_x}
 

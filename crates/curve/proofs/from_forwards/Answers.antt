@@ -23,7 +23,7 @@ use Rattle.curve.proofs.Laws.{liquid_years, curves_from_lem}
 use Rattle.curve.proofs.Extending.{usable, weights_ahead, weights_later, first_quoted, first_in_range}
 use borrow.Author.Rules.{rules}
 use Rattle.curve.proofs.from_forwards.Goals as goal
-use Rattle.curve.proofs.from_forwards.Goals.{After-weights_at-weights}
+use Rattle.curve.proofs.from_forwards.Goals.{After-weights_at-weights, After-smoothing_year-year, After-first_years}
 
 lows : (c : After-weights_at-weights) → length c.weights_at-weights.result.lows ≡ 140
 lows c = search rules
@@ -31,26 +31,54 @@ lows c = search rules
 highs : (c : After-weights_at-weights) → length c.weights_at-weights.result.highs ≡ 140
 highs c = search rules
 
+module _ (c : After-smoothing_year-year) where
+  year_least : 10 ≤ c.smoothing_year-year.result
+  year_least = omega (arith, c.smoothing_year-year.ensures, smoothing_least (as_profile c.args.n.profile))
+
+  year_most : c.smoothing_year-year.result ≤ 20
+  year_most = omega (arith, c.smoothing_year-year.ensures, smoothing_most (as_profile c.args.n.profile))
+
+  -- the liquid part whose forwards came
+  liquid : let n = as_numbers c.args.n in (b : Bootstrap) × (liquid_of n ≡ done b) × (done (forwards b) ≡ done (forwards_in n c.args.g))
+  liquid = bind_done (liquid_of (as_numbers c.args.n)) _ c.requires.1
+
+module _ (c : After-first_years) where
+  first_lows : c.first_years.result.lows ≡ first_years (smoothing_year (as_profile c.args.n.profile)) c.args.q.lows
+  first_lows = c.first_years.ensures.0 ∙ ap (λ (k : ℕ). first_years k c.args.q.lows) c.smoothing_year-year.ensures
+
+  first_highs : c.first_years.result.highs ≡ first_years (smoothing_year (as_profile c.args.n.profile)) c.args.q.highs
+  first_highs = c.first_years.ensures.1 ∙ ap (λ (k : ℕ). first_years k c.args.q.highs) c.smoothing_year-year.ensures
+
 pub overflow_sub-later : goal.overflow_sub-later
-overflow_sub-later c = omega (arith, year-most c)
+overflow_sub-later c =
+    omega (arith, year_most (goal.at.overflow_sub-later c).After-smoothing_year-year)
 
 pub slice_bounds-klows-end : goal.slice_bounds-klows-end
-slice_bounds-klows-end c = omega (arith, year-least c, lows (goal.at.slice_bounds-klows-end c).After-weights_at-weights)
+slice_bounds-klows-end c =
+    let at_year = goal.at.slice_bounds-klows-end c in
+    omega (arith, year_least at_year.After-smoothing_year-year, lows at_year.After-weights_at-weights)
 
 pub slice_bounds-both-end : goal.slice_bounds-both-end
-slice_bounds-both-end c = sym (length-take-le _ _ (omega (arith, year-least (goal.at.slice_bounds-both-end c).After-smoothing_year-year, lows (goal.at.slice_bounds-both-end c).After-weights_at-weights)))
+slice_bounds-both-end c =
+    let points = goal.at.slice_bounds-both-end c in
+    sym (length-take-le _ _ (omega (arith, year_least points.After-smoothing_year-year, lows points.After-weights_at-weights)))
 
 pub slice_bounds-khighs-end : goal.slice_bounds-khighs-end
-slice_bounds-khighs-end c = omega (arith, year-least (goal.at.slice_bounds-khighs-end c).After-smoothing_year-year, highs (goal.at.slice_bounds-khighs-end c).After-weights_at-weights)
+slice_bounds-khighs-end c =
+    let points = goal.at.slice_bounds-khighs-end c in
+    omega (arith, year_least points.After-smoothing_year-year, highs points.After-weights_at-weights)
 
 pub slice_bounds-both-end-2 : goal.slice_bounds-both-end-2
-slice_bounds-both-end-2 c = sym (length-take-le _ _ (omega (arith, year-least (goal.at.slice_bounds-both-end-2 c).After-smoothing_year-year, highs (goal.at.slice_bounds-both-end-2 c).After-weights_at-weights)))
+slice_bounds-both-end-2 c =
+    let points = goal.at.slice_bounds-both-end-2 c in
+    sym (length-take-le _ _ (omega (arith, year_least points.After-smoothing_year-year, highs points.After-weights_at-weights)))
 
 pub first_years-requires : goal.first_years-requires
-first_years-requires c = year-most (goal.at.first_years-requires c).After-smoothing_year-year
+first_years-requires c = year_most (goal.at.first_years-requires c).After-smoothing_year-year
 
 pub both-requires : goal.both-requires
 both-requires c =
+    let made = goal.at.both-requires c in
     let κ = c.weights_at-weights in
     let l = c.ultimate_forward-l in
     let pre = c.requires in
@@ -65,25 +93,26 @@ both-requires c =
           record {
             ultimate = l.ensures.0;
             usable = usable l.result l.ensures.0 size (method.ultimate_forward_ordered _ ultimate_most);
-            ahead = weights_ahead factor.result κ.result κ.ensures (lows (goal.at.both-requires c).After-weights_at-weights) (highs (goal.at.both-requires c).After-weights_at-weights) p year;
+            ahead = weights_ahead factor.result κ.result κ.ensures (lows made.After-weights_at-weights) (highs made.After-weights_at-weights) p year;
             pairs =
-                weights_later factor.result κ.result κ.ensures (lows (goal.at.both-requires c).After-weights_at-weights) (highs (goal.at.both-requires c).After-weights_at-weights) p year
+                weights_later factor.result κ.result κ.ensures (lows made.After-weights_at-weights) (highs made.After-weights_at-weights) p year
                 ∙ ap (λ (a : ℕ). weights a (150 - smoothing_year p)) factor.ensures.0;
           };
       numbers = pre.0.numbers;
-      quotes = (liquid (goal.at.both-requires c).After-smoothing_year-year).0;
-      worked = (liquid (goal.at.both-requires c).After-smoothing_year-year).1;
-      forwards = sym (done_injective (liquid (goal.at.both-requires c).After-smoothing_year-year).2);
+      quotes = (liquid made.After-smoothing_year-year).0;
+      worked = (liquid made.After-smoothing_year-year).1;
+      forwards = sym (done_injective (liquid made.After-smoothing_year-year).2);
       sizes = pre.2;
-      in_range = first_in_range pre.0 c.first_years.result (first-lows c) (first-highs c);
+      in_range = first_in_range pre.0 c.first_years.result (first_lows made.After-first_years) (first_highs made.After-first_years);
     }
 
 pub returns : goal.returns
 returns c =
+    let points = goal.at.returns c in
     let pre = c.requires in
     let n = as_numbers c.args.n in
-    let quoted = first_quoted pre.0 c.first_years.result (first-lows (goal.at.returns c).After-first_years) (first-highs (goal.at.returns c).After-first_years) ∙ sym (liquid_years n pre.0.worked (liquid (goal.at.returns c).After-smoothing_year-year).1) in
+    let quoted = first_quoted pre.0 c.first_years.result (first_lows points.After-first_years) (first_highs points.After-first_years) ∙ sym (liquid_years n pre.0.worked (liquid points.After-smoothing_year-year).1) in
     let made =
-    curves_from_lem n (liquid (goal.at.returns c).After-smoothing_year-year).0 (liquid (goal.at.returns c).After-smoothing_year-year).1
-    ∙ ap₂ (λ (gs : List SignedPair) (ps : List Pair). curves_from n gs ps) (done_injective (liquid (goal.at.returns c).After-smoothing_year-year).2) (sym quoted) in
-    let r = c.both.ensures in record { outcome = r.0 ∙ sym made; beside = r.1.0 ∙ ap (result_or no_curves) (sym made); unused = r.1.1 }
+    curves_from_lem n (liquid points.After-smoothing_year-year).0 (liquid points.After-smoothing_year-year).1
+    ∙ ap₂ (λ (gs : List SignedPair) (ps : List Pair). curves_from n gs ps) (done_injective (liquid points.After-smoothing_year-year).2) (sym quoted) in
+    let r = c.both.ensures in record { outcome = r.outcome ∙ sym made; beside = r.beside ∙ ap (result_or no_curves) (sym made); unused = r.unused }

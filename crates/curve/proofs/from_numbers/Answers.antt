@@ -7,7 +7,6 @@ use Rattle.bootstrap.specs.Liquids.{as_bootstrap}
 use Rattle.grounds.specs.Verdicts.{as_outcome}
 use Rattle.grounds.proofs.Chain.{at_verdict, refused_alone}
 use Rattle.curve.proofs.Laws.{quotes_refused}
-use borrow.Author.Rules.{rules}
 use Rattle.curve.proofs.from_numbers.Goals as goal
 use Rattle.curve.proofs.from_numbers.Goals.{After-bootstrap-quotes}
 

@@ -1,17 +1,15 @@
 -- Five volumes, or one.
-use mathlib.Core.Path.{◌≡◌, ap, ap₂, sym, subst, ◌∙◌}
-use mathlib.Core.List.{List}
-use Prim.Native.Nat.{ℕ, ◌-◌, ◌≤◌, ◌<◌}
+use mathlib.Core.Path.{◌≡◌, ap, ap₂, sym, ◌∙◌}
+use Prim.Native.Nat.{ℕ, ◌-◌}
 use native.Mathlib.Omega.{arith}
-use lib.IntN.{ℤ, pos}
+use lib.IntN.{pos}
 use lib.ListN.{length, take, get_or}
 use lib.Seq.{take_all}
 use Rattle.method.specs.Units.{signed_pair}
-use Rattle.method.specs.Sheet.{volume_count, total}
+use Rattle.method.specs.Sheet.{volume_count}
 use Rattle.method.specs.Extrapolation.{llfr}
 use Rattle.rounding.proofs.Machine.{stored_is, stored_size}
 use Rattle.sheet.specs.Views.{as_profile, as_numbers}
-use Rattle.extrapolation.specs.Extrapolated.{volume_bound}
 use Rattle.curve.proofs.Extending.{five_or_one, all_five, llfr-first}
 use borrow.Author.Rules.{rules}
 use Rattle.curve.proofs.llfr_of.Goals as goal

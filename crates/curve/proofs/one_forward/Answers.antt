@@ -1,10 +1,9 @@
 -- Its forward, and zeros.
 use mathlib.Core.Path.{ap, ap₂, ◌∙◌}
-use mathlib.Core.List.{List, [], ◌∷◌, zip_with}
+use mathlib.Core.List.{[], ◌∷◌, zip_with}
 use Rattle.method.specs.Units.{SignedPair, signed_pair}
 use Rattle.rounding.proofs.Machine.{stored_is, stored_size}
 use Rattle.curve.proofs.Extending.{one_sizes}
-use borrow.Author.Rules.{rules}
 use Rattle.curve.proofs.one_forward.Goals as goal
 
 pub returns : goal.returns

@@ -1,16 +1,14 @@
 -- Ground 9 on the one x that there is.
 use mathlib.Core.Path.{◌≡◌, ap, sym, subst⁻¹, ◌∙◌}
-use mathlib.Core.Bool.{Bool, true, false, ◌&&◌}
-use mathlib.Core.List.{List, [], ◌∷◌}
-use borrow.Author.Tests.{not-true, not-false}
+use mathlib.Core.Bool.{true, ◌&&◌}
+use mathlib.Core.List.{[], ◌∷◌}
 use lib.Dec.{leb, lit≤}
-use Rattle.method.specs.Units.{Pair, SignedPair}
+use Rattle.method.specs.Units.{Pair}
 use Rattle.method.specs.Sheet.{volume_count}
 use Rattle.method.specs.Quotes.{lower_end, upper_end}
 use Rattle.method.specs.Ranges.{YearlyFactor}
 use Rattle.method.specs.Series.{gap_forward}
 use Rattle.curve.proofs.Extending.{within_ends, ten_quoted, own_passed, own_refused, x_in_range, one_stretch}
-use borrow.Author.Rules.{rules}
 use Rattle.curve.proofs.own_forward.Goals as goal
 use Rattle.curve.proofs.own_forward.Goals.{After-within_ends, Else-not-within_ends}
 
@@ -19,7 +17,9 @@ tested : (c : After-within_ends) → c.within_ends.result ≡ within_ends c.requ
 tested c = c.within_ends.ensures ∙ ap (λ (x : Pair). leb lower_end x.low && leb x.high upper_end) c.year_over-x.ensures
 
 passed : (c : Else-not-within_ends) → within_ends c.requires.0 c.requires.1 ≡ true
-passed c = sym (tested PARENT[c:After-within_ends]) ∙ not-false _ c.if-not-within_ends.false
+passed c =
+    sym (c.within_ends.ensures ∙ ap (λ (x : Pair). leb lower_end x.low && leb x.high upper_end) c.year_over-x.ensures)
+    ∙ c.if-not-within_ends.false
 
 pub year_over-x-requires : goal.year_over-x-requires
 year_over-x-requires c = (c.requires.0.sound, lit≤ tt, ten_quoted c.requires.0 c.requires.1)
