@@ -1,11 +1,10 @@
 -- The block's high on a curve, and whether it is at most the target.
 use mathlib.Core.Path.{◌≡◌, ap, ◌∙◌}
-use mathlib.Core.Bool.{Bool, true}
+use mathlib.Core.Bool.{true}
 use mathlib.Core.List.{List}
 use Prim.Native.Nat.{ℕ}
-use lib.Dec.{leb}
 use Rattle.method.specs.Units.{Pair, pair}
-use Rattle.method.specs.Grounds.{Outcome, done}
+use Rattle.method.specs.Grounds.{done}
 use Rattle.valuation.specs.Block.{Flow, worth_of, worth_by, value_by}
 use Rattle.grounds.specs.Verdicts.{result_or}
 use Rattle.block.specs.declared.Block.{Block}

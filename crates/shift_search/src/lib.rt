@@ -169,7 +169,7 @@ fn shift_block(sheet: &[u8], b: Block, target: u64) -> Shift
     search(numbers, b, target)
 }
 
-// Its list, a slice of structs, is walked by hand.
+// The list as structs, a year and cents each.
 pub fn shift_of(sheet: &[u8], flows: &[Flow], target: u64) -> Shift
     ensures { ShiftedAs sheet.now (as_flows flows.now) target result }
 {
