@@ -9,7 +9,7 @@ ghost use Rattle.book.specs.Steps.{ValuedAs};
 
 use block::Flow;
 use book::{Book, Valued};
-use libc::{STDIN_FILENO, STDOUT_FILENO};
+use std::io;
 
 // An array of its own is lent as a slice of structs, so it is walked by hand.
 fn value_three(book: Book, x: Flow, y: Flow, z: Flow) -> Valued
@@ -19,20 +19,15 @@ fn value_three(book: Book, x: Flow, y: Flow, z: Flow) -> Valued
     book::value_of(book, &flows)
 }
 
-fn show_number(number: u64, end: &[u8]) {
-    io::print_decimal(STDOUT_FILENO, number);
-    io::write_all(STDOUT_FILENO, end);
-}
-
-fn show(valued: Valued) {
+fn show(rt: &impl Print, valued: Valued) -> io::Result<()> {
     let verdict = valued.verdict;
-    show_number(grounds::number(verdict), b" ");
-    show_number(grounds::place(verdict), b" ");
+    let number = grounds::number(verdict);
+    let place = grounds::place(verdict);
     let value = valued.value;
-    show_number(value.low, b" ");
-    show_number(value.high, b" ");
-    show_number(value.month, b" ");
-    show_number(value.age, b"\n");
+    println!(rt;
+        "{number} {place} {} {} {} {}",
+        value.low, value.high, value.month, value.age
+    )
 }
 
 fn flow(year: u64, cents: u64) -> Flow {
@@ -42,26 +37,26 @@ fn flow(year: u64, cents: u64) -> Flow {
     }
 }
 
-fn value(book: Book, x: Flow, y: Flow, z: Flow) {
-    show(value_three(book, x, y, z));
+fn value(rt: &impl Print, book: Book, x: Flow, y: Flow, z: Flow) -> io::Result<()> {
+    show(rt, value_three(book, x, y, z))
 }
 
 // A year that stands twice; the largest of both; the first and the last year with no cents; then 21, 22, 21 before 22, and the first of two.
-fn values(age_limit: u64, calls: &[u8]) {
+fn values(rt: &impl Print, age_limit: u64, calls: &[u8]) -> io::Result<()> {
     let book = replay::replay(age_limit, calls);
-    value(book, flow(1, 100), flow(2, 100), flow(20, 100_000));
-    value(book, flow(20, 60_000), flow(7, 1), flow(20, 40_000));
-    value(book, flow(150, 1_000_000_000), flow(1, 0), flow(150, 0));
-    value(book, flow(1, 1), flow(151, 1), flow(0, 1));
-    value(book, flow(1, 1), flow(2, 2), flow(3, 1_000_000_001));
-    value(book, flow(0, 1_000_000_001), flow(1, 1), flow(1, 1));
-    value(book, flow(1, 1_000_000_001), flow(0, 1), flow(1, 1));
+    value(rt, book, flow(1, 100), flow(2, 100), flow(20, 100_000))?;
+    value(rt, book, flow(20, 60_000), flow(7, 1), flow(20, 40_000))?;
+    value(rt, book, flow(150, 1_000_000_000), flow(1, 0), flow(150, 0))?;
+    value(rt, book, flow(1, 1), flow(151, 1), flow(0, 1))?;
+    value(rt, book, flow(1, 1), flow(2, 2), flow(3, 1_000_000_001))?;
+    value(rt, book, flow(0, 1_000_000_001), flow(1, 1), flow(1, 1))?;
+    value(rt, book, flow(1, 1_000_000_001), flow(0, 1), flow(1, 1))
 }
 
-fn main() {
-    let mut buffer = io::large_buffer();
-    let read = io::read_full(STDIN_FILENO, &mut buffer);
-    values(5_000, &buffer[..read]);
-    values(3, &buffer[..read]);
-    values(2, &buffer[..read]);
+fn main(rt: HostRuntime) -> io::Result<()> {
+    let mut buffer = [0u8; 65_536];
+    let read = input::fill(&mut rt.stdin(), &mut buffer)?;
+    values(&rt, 5_000, &buffer[..read])?;
+    values(&rt, 3, &buffer[..read])?;
+    values(&rt, 2, &buffer[..read])
 }

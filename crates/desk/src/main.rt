@@ -1,8 +1,8 @@
 // The desk: reads records from standard input and answers each with a line on standard output.
 #![tactic(auto)]
 
-use libc::{STDIN_FILENO, STDOUT_FILENO};
+use std::io;
 
-fn main() {
-    desk_core::serve(STDIN_FILENO, STDOUT_FILENO);
+fn main(rt: HostRuntime) -> io::Result<()> {
+    desk_core::serve(&mut rt.stdin(), &mut rt.stdout())
 }

@@ -3,7 +3,7 @@
 
 mod lines;
 
-ghost use Rattle.std.specs.Prelude.{◌≡◌, ◌+◌, ◌-◌, ◌<◌, ◌≤◌, min, length, take, drop};
+ghost use Rattle.std.specs.Prelude.{◌≡◌, ◌+◌, ◌-◌, ◌<◌, ◌≤◌, min, length, take, drop, IfOk};
 ghost use Rattle.book.specs.Views.{as_book};
 ghost use Rattle.desk_core.specs.Lines.{broken_line};
 ghost use Rattle.desk_core.specs.Desk.{line_room, served};
@@ -12,6 +12,8 @@ ghost use Rattle.desk_core.specs.Handed.{Puts, asked_line, is_not_known, Serves,
 use book::Book;
 use journal::{Asked, Reply};
 use lines::{put_line, put_reply};
+use std::io;
+use std::io::{Read, Write};
 
 // Any line's room.
 const LINE_ROOM: usize = 128;
@@ -164,13 +166,12 @@ fn pass(desk: Desk, block: &mut [u8], text: &mut [u8]) -> Passed
 
 // ---- reading and writing
 
-// One read, where there is room: so it puts nothing only at the end of the input, or where it fails.
-fn read_into(input: i32, room: &mut [u8]) -> usize
+// One read, where there is room: so it puts nothing only at the end of the input.
+fn read_into<R: Read>(input: &mut R, room: &mut [u8]) -> io::Result<usize>
     requires { 0 < length room.old }
-    ensures { result ≤ length room.old }
+    ensures { IfOk result (λ n. n ≤ length room.old) }
 {
-    let got = libc::read(input, room);
-    io::count(got, room)
+    input.read(room)
 }
 
 // Where a read behind the bytes held ends, in a block of this size.
@@ -185,28 +186,28 @@ fn read_end(held: usize, size: usize) -> usize
 }
 
 // One read behind the bytes that are held.
-fn read_more(input: i32, desk: Desk, block: &mut [u8]) -> Desk
+fn read_more<R: Read>(input: &mut R, desk: Desk, block: &mut [u8]) -> io::Result<Desk>
     requires { desk.held < length block.old }
-    ensures { Reads desk block.old block.new result }
+    ensures { IfOk result (λ r. Reads desk block.old block.new r) }
 {
     let held = desk.held;
     let end = read_end(held, block.len());
     let mut next = desk;
-    next.held = held + read_into(input, &mut block[held..end]);
-    next
+    next.held = held + read_into(input, &mut block[held..end])?;
+    Ok(next)
 }
 
-fn write_broken(output: i32, offset: u64, text: &mut [u8])
+fn write_broken<W: Write>(output: &mut W, offset: u64, text: &mut [u8]) -> io::Result<()>
     requires { line_room ≤ length text.old }
     ensures { take (length (broken_line offset)) text.new ≡ broken_line offset }
 {
     let end = put_line(b'X', &[offset], text, 0);
-    io::write_all(output, &text[..end]);
+    output.write_all(&text[..end])
 }
 
 // Serves the input to its end, or to an unknown kind, as `printed_in` says. A proved loop has to end, and nothing says that the input
-// does: so the passes are counted down, from a number that no run uses up.
-pub fn serve(input: i32, output: i32) {
+// does: so the passes are counted down, from a number that no run uses up. A read or a write that fails ends it, with its error.
+pub fn serve<R: Read, W: Write>(input: &mut R, output: &mut W) -> io::Result<()> {
     // The longest record fits: while none is whole, there is room to read.
     let mut block_space = [0u8; 65_538];
     let block: &mut [u8] = &mut block_space;
@@ -218,23 +219,23 @@ pub fn serve(input: i32, output: i32) {
         passes -= 1;
         let passed = pass(desk, block, text);
         let written = passed.written;
-        io::write_all(output, &text[..written]);
+        output.write_all(&text[..written])?;
         let left = passed.desk;
         let offset = left.offset;
         let held = left.held;
         desk = left;
         if passed.unknown {
-            write_broken(output, offset, text);
-            return;
+            return write_broken(output, offset, text);
         }
         if passed.taken == 0 {
-            desk = read_more(input, left, block);
+            desk = read_more(input, left, block)?;
             if desk.held == held {
                 if 0 < held {
-                    write_broken(output, offset, text);
+                    return write_broken(output, offset, text);
                 }
-                return;
+                return Ok(());
             }
         }
     }
+    Ok(())
 }

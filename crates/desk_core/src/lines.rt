@@ -13,7 +13,9 @@ fn put(bytes: &[u8], text: &mut [u8], at: usize) -> usize
     requires { at + length bytes.now ≤ length text.old }
     ensures { Puts bytes.now text.old at text.new result }
 {
-    at + bytes::copy(bytes, &mut text[at..])
+    let end = at + bytes.len();
+    text[at..end].copy_from_slice(bytes);
+    end
 }
 
 fn put_number(n: u64, text: &mut [u8], at: usize) -> usize
@@ -22,8 +24,8 @@ fn put_number(n: u64, text: &mut [u8], at: usize) -> usize
 {
     let end = put(b" ", text, at);
     let mut digits = [0u8; 20];
-    let k = io::decimal(n, &mut digits);
-    put(&digits[..k], text, end)
+    let start = itoa::write_digits(n, &mut digits, 20);
+    put(&digits[start..], text, end)
 }
 
 fn put_numbers(numbers: &[u64], text: &mut [u8], at: usize) -> usize

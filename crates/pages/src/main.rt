@@ -7,36 +7,48 @@
 ghost use Rattle.std.specs.Prelude.{◌≤◌};
 
 use book::Which;
-use libc::{STDIN_FILENO, STDOUT_FILENO};
+use std::io;
 
 // No multiple of it up to 150 times has two equal bytes, so that their order shows.
 const MULTIPLE: u32 = 0x0102_0304;
 
-fn show(age_limit: u64, calls: &[u8], which: Which, lent: &mut [u8], length: usize) {
+fn show(
+    rt: &impl Print,
+    age_limit: u64,
+    calls: &[u8],
+    which: Which,
+    lent: &mut [u8],
+    length: usize,
+) -> io::Result<()> {
     if lent.len() < length {
-        return;
+        return Ok(());
     }
     let verdict = replay::page_after(age_limit, calls, which, &mut lent[..length]);
-    io::print_decimal(STDOUT_FILENO, grounds::number(verdict));
-    io::write_all(STDOUT_FILENO, b"\n");
-    io::write_all(STDOUT_FILENO, lent);
+    rt.println(grounds::number(verdict))?;
+    rt.write_all(lent)
 }
 
-fn page_into(age_limit: u64, calls: &[u8], which: Which, length: usize) {
+fn page_into(
+    rt: &impl Print,
+    age_limit: u64,
+    calls: &[u8],
+    which: Which,
+    length: usize,
+) -> io::Result<()> {
     let mut lent = [7u8; 2_000];
-    show(age_limit, calls, which, &mut lent, length);
+    show(rt, age_limit, calls, which, &mut lent, length)
 }
 
-fn pages_of(age_limit: u64, calls: &[u8], which: Which) {
-    page_into(age_limit, calls, which, 0);
-    page_into(age_limit, calls, which, 1_504);
-    page_into(age_limit, calls, which, 1_505);
-    page_into(age_limit, calls, which, 2_000);
+fn pages_of(rt: &impl Print, age_limit: u64, calls: &[u8], which: Which) -> io::Result<()> {
+    page_into(rt, age_limit, calls, which, 0)?;
+    page_into(rt, age_limit, calls, which, 1_504)?;
+    page_into(rt, age_limit, calls, which, 1_505)?;
+    page_into(rt, age_limit, calls, which, 2_000)
 }
 
-fn pages(age_limit: u64, calls: &[u8]) {
-    pages_of(age_limit, calls, Which::Plain);
-    pages_of(age_limit, calls, Which::Adjusted);
+fn pages(rt: &impl Print, age_limit: u64, calls: &[u8]) -> io::Result<()> {
+    pages_of(rt, age_limit, calls, Which::Plain)?;
+    pages_of(rt, age_limit, calls, Which::Adjusted)
 }
 
 // Of years 1 to 150.
@@ -52,30 +64,30 @@ fn multiples(of: u32) -> [u32; 150]
     numbers
 }
 
-fn show_written_to(t: usize)
+fn show_written_to(rt: &impl Print, t: usize) -> io::Result<()>
     requires { t ≤ 150 }
 {
     let lows = multiples(MULTIPLE);
     let highs = multiples(MULTIPLE + 1);
     let mut lent = [7u8; 1_506];
     page_writer::write_to(5, 2, &lows, &highs, t, &mut lent);
-    io::write_all(STDOUT_FILENO, &lent);
+    rt.write_all(&lent)
 }
 
-fn states() {
-    show_written_to(0);
-    show_written_to(1);
-    show_written_to(2);
-    show_written_to(75);
-    show_written_to(149);
-    show_written_to(150);
+fn states(rt: &impl Print) -> io::Result<()> {
+    show_written_to(rt, 0)?;
+    show_written_to(rt, 1)?;
+    show_written_to(rt, 2)?;
+    show_written_to(rt, 75)?;
+    show_written_to(rt, 149)?;
+    show_written_to(rt, 150)
 }
 
-fn main() {
-    let mut buffer = io::large_buffer();
-    let read = io::read_full(STDIN_FILENO, &mut buffer);
-    pages(5_000, &buffer[..read]);
-    pages(3, &buffer[..read]);
-    pages(2, &buffer[..read]);
-    states();
+fn main(rt: HostRuntime) -> io::Result<()> {
+    let mut buffer = [0u8; 65_536];
+    let read = input::fill(&mut rt.stdin(), &mut buffer)?;
+    pages(&rt, 5_000, &buffer[..read])?;
+    pages(&rt, 3, &buffer[..read])?;
+    pages(&rt, 2, &buffer[..read])?;
+    states(&rt)
 }
