@@ -1,5 +1,5 @@
-// The book after the calls of a journal, made with an age limit, and what is then answered: for programs in Rattle, and in C by include/tuyqorem.h. In C
-// also the shift that meets a target, for which there is no book.
+// The book after the calls of a journal, made with an age limit, and what is then answered: for programs in Rattle, and for those in C as `replay_c`
+// exports it. For C also the shift that meets a target, for which there is no book.
 #![tactic(auto)]
 
 ghost use Rattle.std.specs.Prelude.{◌≡◌, ◌++◌, ◌+◌, ◌*◌, ◌≤◌, length, drop};
@@ -117,8 +117,7 @@ fn packed(verdict: Verdict) -> u64
 }
 
 // A buffer that is too short is tried last.
-#[unsafe(no_mangle)]
-pub extern "C" fn tuyqorem_look_after(
+pub fn tuyqorem_look_after(
     age_limit: u64,
     calls: &[u8],
     kind: u64,
@@ -141,13 +140,7 @@ pub extern "C" fn tuyqorem_look_after(
     0
 }
 
-#[unsafe(no_mangle)]
-pub extern "C" fn tuyqorem_page_after(
-    age_limit: u64,
-    calls: &[u8],
-    kind: u64,
-    out: &mut [u8],
-) -> u64
+pub fn tuyqorem_page_after(age_limit: u64, calls: &[u8], kind: u64, out: &mut [u8]) -> u64
     ensures returned { returned result out.new ≡ page_returned (page_after age_limit calls.now (by_kind kind) out.old) }
     ensures told { Demand3 age_limit (decode calls.now) }
 {
@@ -155,13 +148,7 @@ pub extern "C" fn tuyqorem_page_after(
 }
 
 // Year and cents in turn; an odd count is no list.
-#[unsafe(no_mangle)]
-pub extern "C" fn tuyqorem_value_after(
-    age_limit: u64,
-    calls: &[u8],
-    flows: &[u64],
-    out: &mut [u8],
-) -> u64
+pub fn tuyqorem_value_after(age_limit: u64, calls: &[u8], flows: &[u64], out: &mut [u8]) -> u64
     ensures returned { returned result out.new ≡ value_returned (value_after age_limit calls.now flows.now) out.old }
     ensures told { Demand3 age_limit (decode calls.now) }
 {
@@ -179,8 +166,7 @@ pub extern "C" fn tuyqorem_value_after(
 }
 
 // Of a sheet and a list by themselves: no book is asked.
-#[unsafe(no_mangle)]
-pub extern "C" fn tuyqorem_shift(sheet: &[u8], flows: &[u64], target: u64, out: &mut [u8]) -> u64
+pub fn tuyqorem_shift(sheet: &[u8], flows: &[u64], target: u64, out: &mut [u8]) -> u64
     ensures returned { returned result out.new ≡ shift_returned (shift_by sheet.now flows.now target) out.old }
     ensures told { ShiftTells sheet.now (paired flows.now) target (shift_by sheet.now flows.now target) }
 {
@@ -197,8 +183,7 @@ pub extern "C" fn tuyqorem_shift(sheet: &[u8], flows: &[u64], target: u64, out: 
 }
 
 // The answer of one more call, the first record of `call`; 255 where that is no whole record.
-#[unsafe(no_mangle)]
-pub extern "C" fn tuyqorem_answer_after(age_limit: u64, calls: &[u8], call: &[u8]) -> u64
+pub fn tuyqorem_answer_after(age_limit: u64, calls: &[u8], call: &[u8]) -> u64
     ensures returned { result ≡ replied (reply_to (book_after age_limit calls.now) (front call.now)) }
     ensures told { Withdraws age_limit (decode calls.now) }
 {
