@@ -2,7 +2,7 @@
  * factors of years 1 to that year, low and high in billionths, the value of 1,000 euro a year in euro, rounded outward to whole
  * cents, and month and age of the curve; or why there is none: annuity [AGE_LIMIT] < journal
  * The limit is in months, and the largest, 2,399, where none is given.
- * Build: rt staticlib replay && cc -Iinclude examples/annuity.c target/staticlib/libreplay.a -o annuity
+ * Build: tools/library && cc -Iinclude examples/annuity.c target/staticlib/libreplay.a -o annuity
  * It compiles as C++ too. */
 #include <stdio.h>
 #include "age_limit.h"

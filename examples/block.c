@@ -2,7 +2,7 @@
  * month and age of the curve, then the answer to the same block with a year typed wrong; or why there is no value:
  * block [AGE_LIMIT] < journal
  * The limit is in months, and the largest, 2,399, where none is given.
- * Build: rt staticlib replay && cc -Iinclude examples/block.c target/staticlib/libreplay.a -o block
+ * Build: tools/library && cc -Iinclude examples/block.c target/staticlib/libreplay.a -o block
  * It compiles as C++ too. */
 #include <stdio.h>
 #include "age_limit.h"

@@ -2,7 +2,7 @@
  * years of the plain curve that stands, those around the smoothing years 10, 15 and 20 among them, or why none is
  * shown: markets [AGE_LIMIT] < journal
  * The limit is in months, and the largest, 2,399, where none is given.
- * Build: rt staticlib replay && cc -Iinclude examples/markets.c target/staticlib/libreplay.a -o markets
+ * Build: tools/library && cc -Iinclude examples/markets.c target/staticlib/libreplay.a -o markets
  * It compiles as C++ too. */
 #include <stdio.h>
 #include "age_limit.h"

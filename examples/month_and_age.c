@@ -1,7 +1,7 @@
 /* Prints the month and the age of the curve that a journal leaves, unless its age is above the book's limit:
  * month_and_age [AGE_LIMIT] < journal
  * The limit is in months, and the largest, 2,399, where none is given.
- * Build: rt staticlib replay && cc -Iinclude examples/month_and_age.c target/staticlib/libreplay.a -o month_and_age
+ * Build: tools/library && cc -Iinclude examples/month_and_age.c target/staticlib/libreplay.a -o month_and_age
  * It compiles as C++ too, hence the casts. */
 #include <stdio.h>
 #include <stdlib.h>

@@ -1,7 +1,7 @@
 /* Takes the last sheet that a journal posts, accepted or not, and prints for some amounts the smallest shift of all its rates, in
  * hundred-thousandths, at which a small block of policies costs no more than the amount, or why there is none:
  * shift < journal
- * Build: rt staticlib replay && cc -Iinclude examples/shift.c target/staticlib/libreplay.a -o shift
+ * Build: tools/library && cc -Iinclude examples/shift.c target/staticlib/libreplay.a -o shift
  * Neither the journal's other calls nor an age limit have a say: the sheet alone is asked about. It compiles as C++ too. */
 #include <stdio.h>
 #include "records.h"

@@ -1,7 +1,7 @@
 /* Prints what stands after a journal and after each withdrawal that is then accepted, one after another: the month, the age and
  * year 20's band of the plain curve, or why it is not shown: taken_back [AGE_LIMIT] < journal
  * The limit is in months, and the largest, 2,399, where none is given.
- * Build: rt staticlib replay && cc -Iinclude examples/taken_back.c target/staticlib/libreplay.a -o taken_back
+ * Build: tools/library && cc -Iinclude examples/taken_back.c target/staticlib/libreplay.a -o taken_back
  * It compiles as C++ too. */
 #include <stdio.h>
 #include "age_limit.h"

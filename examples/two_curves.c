@@ -1,7 +1,7 @@
 /* Prints the bands of the plain curve that a journal leaves and, beside them, those of the adjusted one, a line a year; or why
  * there are none: two_curves [AGE_LIMIT] < journal
  * The limit is in months, and the largest, 2,399, where none is given.
- * Build: rt staticlib replay && cc -Iinclude examples/two_curves.c target/staticlib/libreplay.a -o two_curves
+ * Build: tools/library && cc -Iinclude examples/two_curves.c target/staticlib/libreplay.a -o two_curves
  * It compiles as C++ too, hence the casts. */
 #include <stdio.h>
 #include "age_limit.h"

@@ -1,7 +1,7 @@
 /* Goes through a journal and prints for each of its records that it is accepted, or why it is turned down:
  * why_refused [AGE_LIMIT] < journal
  * The book's age limit is in months, and the largest, 2,399, where none is given.
- * Build: rt staticlib replay && cc -Iinclude examples/why_refused.c target/staticlib/libreplay.a -o why_refused
+ * Build: tools/library && cc -Iinclude examples/why_refused.c target/staticlib/libreplay.a -o why_refused
  * A program that keeps a journal would ask the same before it adds a record. It compiles as C++ too. */
 #include <stdio.h>
 #include "age_limit.h"

@@ -1,7 +1,7 @@
 /* Prints the annual zero rates of the plain curve that a journal leaves, low and high, a line a year; or why there are none:
  * zero_rates [AGE_LIMIT] < journal
  * The limit is in months, and the largest, 2,399, where none is given.
- * Build: rt staticlib replay && cc -Iinclude examples/zero_rates.c target/staticlib/libreplay.a -o zero_rates
+ * Build: tools/library && cc -Iinclude examples/zero_rates.c target/staticlib/libreplay.a -o zero_rates
  * It compiles as C++ too, hence the casts. */
 #include <stdio.h>
 #include "age_limit.h"

@@ -1,4 +1,4 @@
-//! Links the proved library's archive, which `rt staticlib replay` writes.
+//! Links the proved library's archive, which `tools/library` puts there.
 
 fn main() {
     let root = std::env::var("CARGO_MANIFEST_DIR").expect("cargo sets it");
