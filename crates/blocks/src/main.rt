@@ -11,7 +11,7 @@ use block::Flow;
 use book::{Book, Valued};
 use std::io;
 
-// An array of its own is lent as a slice of structs, so it is walked by hand.
+// An array of its own is lent as a slice of structs.
 fn value_three(book: Book, x: Flow, y: Flow, z: Flow) -> Valued
     ensures { ValuedAs (as_book book) (as_flows (x ∷ y ∷ z ∷ [])) result }
 {

@@ -571,7 +571,7 @@ fn value_block(book: Book, block: Block) -> Valued
     value_in(book.standing.has, curve, book.told, book.age_limit, block)
 }
 
-// Its list, a slice of structs, is walked by hand.
+// The list as structs, a year and cents each.
 pub fn value_of(book: Book, flows: &[Flow]) -> Valued
     ensures { ValuedAs (as_book book) (as_flows flows.now) result }
 {
