@@ -1,39 +1,33 @@
--- The digits that `io` puts are those of the definition.
-use Rattle.std.proofs.Common.{◌≡◌, ℕ, zero, suc, ◌-◌, ◌*◌, ◌/◌, ◌%◌, ◌^◌, ◌<◌, ◌≤◌, Bool, true, false, leb, refl, mod-eq_of_lt, pow-suc, arith, le-ltb, lt-ltb, leb-false, leb-true}
-use native.Mathlib.Nat.{one-le-pow, pow-le-pow_right}
-use Rattle.io.specs.Digits.{last_digits, hex_digit_ascii, IsDigitCount}
-use Rattle.desk_core.specs.Lines.{digit, digits_to, decimal}
+-- The digits that std and `itoa` write are those of the definition.
+use Rattle.std.proofs.Common.{◌≡◌, ℕ, zero, suc, ◌*◌, ◌/◌, ◌^◌, ◌<◌, ◌≤◌, ◌+◌, ◌-◌, Bool, true, false, leb, List, [], ◌++◌, length, take, drop, refl, append-nil, take_all, pow-suc, arith, le-ltb, lt-ltb, leb-false, leb-true}
+use Rattle.std.specs.Fmt as text
+use Rattle.std.proofs.lemmas.Fmt.{decimal_digit, decimal_step}
+use Rattle.desk_core.specs.Lines.{digits_to, decimal}
 
-glyph_digit : (d : ℕ) → d < 10 → hex_digit_ascii d ≡ digit d
-glyph_digit d h = rw (lt-ltb d 10 h)
-
-same_digits : (most k n : ℕ) → k ≤ most → IsDigitCount 10 1 n k → last_digits 10 k n ≡ digits_to most n
+short : (most n : ℕ) → n < 10 → text.decimal n ≡ digits_to (suc most) n
 unfolding digits_to
-same_digits most zero n l f = absurd (omega (arith, f.0))
-same_digits zero (suc k) n l f = absurd (omega arith)
-same_digits (suc most) (suc zero) n l f =
-    let h : n < 10 = f.1 in
-    rw (lt-ltb n 10 h, mod-eq_of_lt h, glyph_digit n h)
-same_digits (suc most) (suc (suc k)) n l f =
-    let p : 10 ^ suc (suc k) ≡ 10 ^ suc k * 10 = pow-suc 10 (suc k) in
-    let q : 10 ^ suc k ≡ 10 ^ k * 10 = pow-suc 10 k in
-    let o : 1 ≤ 10 ^ k = one-le-pow k 10 (omega arith) in
-    let e : suc (suc k) - 1 ≡ suc k = omega arith in
-    let g : suc k - 1 ≡ k = omega arith in
-    let b : 10 ^ suc k ≤ n = rw e at (f.2 (omega arith)) in
-    let a : n < 10 ^ suc (suc k) = f.1 in
-    let r : IsDigitCount 10 1 (n / 10) (suc k) = (omega arith, omega arith, λ h. rw g (omega arith)) in
-    rw (le-ltb n 10 (omega arith), glyph_digit (n % 10) (omega arith), ← same_digits most (suc k) (n / 10) (omega arith) r)
+short most n h = rw (lt-ltb n 10 h) (decimal_digit n h)
 
--- a number of 64 bits is below 10 ^ 20
-at_most_20 : (k n : ℕ) → n < 2 ^ 64 → IsDigitCount 10 1 n k → k ≤ 20
-at_most_20 k n h f = go (leb k 20) refl
-  where
-    go : (t : Bool) → leb k 20 ≡ t → k ≤ 20
-    go true e = leb-true k 20 e
-    go false e =
-        let l : 20 < k = leb-false k 20 e in
-        absurd (omega (arith, f.2 (omega arith), pow-le-pow_right {n = 10} (omega arith) {i = 20} {j = k - 1} (omega arith)))
+-- one digit more, where it is known of all digits but the last
+longer : (most n : ℕ) → n < 2 ^ 64 → (10 ≤ n → text.decimal (n / 10) ≡ digits_to (suc most) (n / 10)) → (t : Bool) → leb 10 n ≡ t →
+    text.decimal n ≡ digits_to (suc (suc most)) n
+unfolding digits_to
+longer most n small before false e = short (suc most) n (omega (arith, leb-false 10 n e))
+longer most n small before true e =
+    let l : 10 ≤ n = leb-true 10 n e in
+    rw (le-ltb n 10 l, ← before l) (decimal_step n l small)
 
-pub decimal_is : (k n : ℕ) → n < 2 ^ 64 → IsDigitCount 10 1 n k → last_digits 10 k n ≡ decimal n
-decimal_is k n h f = same_digits 20 k n (at_most_20 k n h f) f
+digits_are : (most n : ℕ) → n < 10 ^ suc most → n < 2 ^ 64 → text.decimal n ≡ digits_to (suc most) n
+digits_are zero n h small = short zero n (omega (arith, h))
+digits_are (suc most) n h small =
+    let p : 10 ^ suc (suc most) ≡ 10 ^ suc most * 10 = pow-suc 10 (suc most) in
+    longer most n small (λ _. digits_are most (n / 10) (omega (arith, h, p)) (omega arith)) (leb 10 n) refl
+
+pub decimal_is : (n : ℕ) → n < 2 ^ 64 → text.decimal n ≡ decimal n
+decimal_is n small = digits_are 19 n (omega (arith, small)) small
+
+-- the digits at the end of a buffer of 20 bytes
+pub at_the_end : (n start : ℕ) (buffer : List ℕ) → n < 2 ^ 64 → start + length (text.decimal n) ≡ 20 → drop start buffer ≡ text.decimal n ++ [] →
+    take (20 - start) (drop start buffer) ≡ decimal n
+at_the_end n start buffer small e h =
+    rw (h, append-nil (text.decimal n), take_all (20 - start) (text.decimal n) (omega (arith, e))) (decimal_is n small)
