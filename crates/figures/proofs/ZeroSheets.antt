@@ -17,7 +17,7 @@ use Rattle.method.specs.Sheet.{Profile, euro, from_ten, from_fifteen, quote_coun
 use Rattle.method.specs.Quotes.{Bootstrap, bootstrap, kept, used, quotes_of, last_year}
 use Rattle.method.specs.Series.{gap_forward, ultimate_forward}
 use Rattle.method.specs.Extrapolation.{llfr_numerator, llfr, forward, extrapolate_with, extrapolate, weights, first_too_wide}
-use Rattle.method.specs.Curve.{Curve, spread, gap_xs, liquid_of, factor_of, within_limit, extended_with, extended, curve_with, curve_of_with, curve_of, adjusted_curve}
+use Rattle.method.specs.Curve.{spread, gap_xs, liquid_of, factor_of, within_limit, extended_with, extended, curve_with, curve_of_with, curve_of, adjusted_curve}
 use Rattle.method.proofs.Computes.{computes}
 use Rattle.method.proofs.Entries.{spelled_out}
 use Rattle.method.proofs.Markets.{smoothing_least, smoothing_most}

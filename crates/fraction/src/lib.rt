@@ -1,3 +1,2 @@
 // Exact fractions, rounding and enclosure: definitions in specs/, laws in proofs/. No function.
 #![tactic(auto)]
-

@@ -2,7 +2,7 @@
 -- that its record stands in, for every layout.
 use mathlib.Core.Path.{◌≡◌, refl, ap, ap₂, sym, ◌∙◌}
 use mathlib.Core.Bool.{Bool, true, false, cond}
-use mathlib.Core.List.{List, [], ◌∷◌, map}
+use mathlib.Core.List.{List, map}
 use Prim.Native.Nat.{ℕ, zero, suc, ◌+◌, ◌*◌, ◌-◌, ◌≤◌, ◌<◌}
 use native.Mathlib.Numerals.{add-one}
 use native.Mathlib.Omega.{arith}
@@ -12,7 +12,7 @@ use lib.IntN.{ℤ, pos, nat_abs, ◌-ℤ◌, +ℤ_idr}
 use lib.ListN.{length, take, drop, get_or, length-map, length-take, length-drop, get_or-map}
 use lib.Seq.{drop-cons, ext_get_or, get_or-take, get_or-drop}
 use Rattle.method.specs.Bytes.{big_endian}
-use Rattle.method.specs.Sheet.{month, rate, volume, adjustment, kind_byte, Profile, quote_count, volume_count, names_profile, profile_of}
+use Rattle.method.specs.Sheet.{rate, volume, adjustment, kind_byte, Profile, quote_count, volume_count, names_profile, profile_of}
 use Rattle.method.specs.Sheet.{Layout, layout_of, size_of, Slot, slot, no_slot, slot_at, slots_of, twos_complement16, number_of_record}
 use Rattle.method.specs.Sheet.{right_record, first_failure, month_index, rate_index, volume_index, ultimate_index, Numbers, numbers_of, sheet_numbers}
 use Rattle.method.proofs.Outcome.{split, both_true}
@@ -20,9 +20,9 @@ use Rattle.method.proofs.Entries.{map_at}
 use Rattle.method.proofs.Reading.{first_wrong}
 use Rattle.method.proofs.Slots.{lead_bytes, rate_start, volume_start, ultimate_start, last_start, size_is, slots_least, slots_phased, slots_adjusts}
 use Rattle.method.proofs.Slots.{month_slot, rate_slot, volume_slot, ultimate_slot, limit_slot, phase_in_slot, adjustment_slot, none_fails}
-use Rattle.method.proofs.Layouts.{layout_by, first_bytes, named, by_layout}
+use Rattle.method.proofs.Layouts.{layout_by, first_bytes, by_layout}
 use Rattle.ledger.specs.Count.{byte2, byte4, market_number, rates_of, volumes_of, market_named, month_start, volumes_start, volumes_end, limit_end}
-use Rattle.ledger.specs.Count.{month_of, limit_of, rate_at, offsets, phase_in_of, has_adjustment, adjustment_of, typed}
+use Rattle.ledger.specs.Count.{limit_of, rate_at, offsets, phase_in_of, has_adjustment, adjustment_of, typed}
 
 -- from 32,768 on, 65,536 less
 twos_is : (n : ℕ) → twos_complement16 n ≡ pos n -ℤ pos (cond (leb 32_768 n) 65_536 0)

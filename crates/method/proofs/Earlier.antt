@@ -3,7 +3,7 @@
 -- past 20 years is 0 the curve is the one that every quote gives. An adjustment leaves the plain curve as it is.
 use mathlib.Core.Path.{◌≡◌, refl, ap, subst, ◌∙◌}
 use mathlib.Core.Bool.{Bool, true, false}
-use mathlib.Core.List.{List, ◌++◌, map}
+use mathlib.Core.List.{List, ◌++◌}
 use Prim.Native.Nat.{ℕ, ◌+◌, ◌-◌, ◌≤◌, ◌<◌}
 use borrow.Author.Tests.{le-ltb, lt-ltb}
 use lib.IntN.{ℤ, pos}
@@ -16,10 +16,10 @@ use Rattle.method.specs.Sheet.{euro, smoothing_index, maturities, quoted_maturit
 use Rattle.method.specs.Sheet.{Numbers, sheet_numbers, read_sheet}
 use Rattle.method.specs.Quotes.{used, kept, Bootstrap, bootstrap, quotes_of, last_year}
 use Rattle.method.specs.Ranges.{climbs}
-use Rattle.method.specs.Series.{gap_forward, ultimate_forward}
+use Rattle.method.specs.Series.{ultimate_forward}
 use Rattle.method.specs.Table.{table}
 use Rattle.method.specs.Extrapolation.{llfr, κ_pairs, extrapolate}
-use Rattle.method.specs.Curve.{spread, gap_xs, liquid_of, forwards, factor_of, within_limit, extended_with, extended}
+use Rattle.method.specs.Curve.{spread, gap_xs, liquid_of, forwards, factor_of, within_limit, extended_with}
 use Rattle.method.specs.Curve.{Curve, Curves, none, curve_with, curve_of_with, curve_of, curves_of_with, curves_of, answer_with, answer}
 use Rattle.method.specs.Earlier.{tabled_curve, every_quote_curve}
 use Rattle.method.proofs.Outcome.{bind_assoc, bind_with}

@@ -1,12 +1,12 @@
 -- Laws on the slots of a layout, and on the first record that fails a test.
-use mathlib.Core.Path.{◌≡◌, refl, sym, ap, ◌∙◌}
+use mathlib.Core.Path.{◌≡◌, refl, ap, ◌∙◌}
 use mathlib.Core.Bool.{Bool, true, false, cond}
 use mathlib.Core.List.{List, [], ◌∷◌, ◌++◌, map}
 use Prim.Native.Nat.{ℕ, zero, suc, ◌+◌, ◌-◌, ◌*◌, ◌≤◌, ◌<◌}
 use native.Mathlib.Nat.{not-suc-le-zero, le_of_suc-le-suc}
 use native.Mathlib.Omega.{arith}
 use lib.IntN.{pos, nat_abs}
-use lib.ListN.{length, take, drop, get_or, length-append, length-take, length-drop, length-map, drop_of_length-le, get_or-map}
+use lib.ListN.{length, drop, get_or, length-append, length-take, length-drop, length-map, drop_of_length-le, get_or-map}
 use lib.Seq.{get_or-take, get_or-drop, drop-cons}
 use Rattle.method.specs.Sheet.{Kind, month, rate, volume, ultimate, limit, phase_in, adjustment, profile, body_length, maturities, Entry, entry}
 use Rattle.method.specs.Sheet.{Profile, euro, from_ten, from_fifteen, quote_count, smoothing_index, volume_count, quoted_maturities, volume_maturities}

@@ -1,7 +1,6 @@
 -- The sheet's factor a, worked from the cut rate, is the phase-in paper's α in hundred-millionths: ten percent, X, or linear between.
 use mathlib.Core.Path.{◌≡◌, refl, ap, sym, ◌∙◌}
 use mathlib.Core.Bool.{Bool, cond}
-use mathlib.Core.List.{[]}
 use Prim.Native.Nat.{ℕ, zero, suc, ◌+◌, ◌*◌, ◌-◌, ◌≤◌, ◌<◌}
 use native.Mathlib.Nat.{mul-le-mul, zero-mul, mul-zero, mul_assoc}
 use native.Mathlib.Decide.{dec_le}

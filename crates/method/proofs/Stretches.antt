@@ -1,24 +1,24 @@
 -- THE LIQUID PART, of all markets together: the years to the smoothing year enclose the true ones of every order, and so does the x of
 -- each stretch from the one that ends with it on. That x is a gap's, or where the year before is quoted too the one year over the other.
 use mathlib.Core.Path.{◌≡◌, refl, ap, sym, subst, ◌∙◌}
-use mathlib.Core.Bool.{Bool, true, ◌&&◌}
+use mathlib.Core.Bool.{◌&&◌}
 use mathlib.Core.List.{List, [], ◌∷◌, ◌++◌, map}
-use Prim.Native.Nat.{ℕ, zero, suc, ◌+◌, ◌*◌, ◌-◌, ◌/◌, ◌≤◌, ◌<◌}
+use Prim.Native.Nat.{ℕ, suc, ◌+◌, ◌-◌, ◌≤◌}
 use native.Mathlib.Omega.{arith}
 use borrow.Author.Tests.{leb-true}
 use lib.Dec.{leb, leb→le, lit≤}
-use lib.IntN.{ℤ, pos}
-use lib.ListN.{length, take, drop, get_or, length-map, length-drop}
+use lib.IntN.{pos}
+use lib.ListN.{length, take, drop, get_or, length-drop}
 use lib.Seq.{drop-drop}
 use Rattle.fraction.specs.Fraction.{ℚ, ◌≈◌, nat_ℚ, recip, ◌*ℚ◌, ◌÷◌}
-use Rattle.fraction.specs.Rounding.{U, ceil_div, Encloses}
+use Rattle.fraction.specs.Rounding.{U, Encloses}
 use Rattle.fraction.proofs.Order.{≤ℚ-refl}
 use Rattle.fraction.proofs.Ring.{var, ◌⊗◌}
 use Rattle.fraction.proofs.RingFraction.{ring_ℚ}
 use Rattle.fraction.proofs.Enclosure.{encloses-≈, encloses_product, encloses_ratio, encloses_ordered, nat_encloses}
 use Rattle.method.specs.Units.{Pair, pair}
-use Rattle.method.specs.Grounds.{end_fails_test, done, demand}
-use Rattle.method.specs.Sheet.{Profile, euro, from_ten, from_fifteen, quote_count, smoothing_index, volume_count, maturities, quoted_maturities}
+use Rattle.method.specs.Grounds.{end_fails_test, done}
+use Rattle.method.specs.Sheet.{Profile, euro, from_ten, from_fifteen, smoothing_index, volume_count, maturities, quoted_maturities}
 use Rattle.method.specs.Sheet.{volume_maturities, smoothing_year, Numbers}
 use Rattle.method.specs.Quotes.{lower_end, upper_end, Bootstrap, used, kept, bootstrap}
 use Rattle.method.specs.Ranges.{Each, Factor, YearlyFactor}
@@ -32,7 +32,7 @@ use Rattle.method.proofs.Slots.{volume_count_lem}
 use Rattle.method.proofs.Markets.{smoothed_from_lem, volumes_at_lem}
 use Rattle.method.proofs.QuotesBounds.{each_at, each_take, each_drop, bootstrap_bounded, gaps_from}
 use Rattle.method.proofs.Liquid.{LiquidEnclosed, Rising, bootstrap_encloses}
-use Rattle.method.proofs.Used.{kept_above, beside-used, used-maturities, used_maturities, later_ends, all_used, euro_ends, euro_gaps, used_climb}
+use Rattle.method.proofs.Used.{kept_above, beside-used, used-maturities, used_maturities, later_ends, euro_ends, euro_gaps, used_climb}
 use Rattle.method.proofs.Used.{climbs_rise, used_rates, used_apart, lengths, to_smoothing_year, quoted_length, as_many_marks}
 use Rattle.method.proofs.Used.{yearlies_on, spread_encloses, spread_each, spread-length, spread_one}
 use Rattle.method.proofs.Extended.{Usable}

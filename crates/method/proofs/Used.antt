@@ -10,7 +10,7 @@ use borrow.Author.Tests.{le-leb, lt-leb, lt-ltb, ne_eqb}
 use lib.Dec.{ltb, lit≤}
 use lib.IntN.{ℤ}
 use lib.ListN.{length, take, drop, get_or, replicate, length-map, length-drop, length-append, length-replicate, get_or-replicate, get_or-append, get_or-map}
-use lib.Seq.{drop-drop, drop-nil, length-take-le, get_or-append-add, get_or-drop}
+use lib.Seq.{drop-nil, length-take-le, get_or-append-add, get_or-drop}
 use Rattle.fraction.specs.Fraction.{ℚ}
 use Rattle.fraction.specs.Rounding.{U}
 use Rattle.fraction.proofs.Order.{≤ℚ-refl}

@@ -1,5 +1,5 @@
 -- What is promised of a block's value, whatever the lows and the highs of the years are.
-use mathlib.Core.Path.{◌≡◌, refl, ap₂, sym, subst, ◌∙◌}
+use mathlib.Core.Path.{◌≡◌, ap₂, sym, subst}
 use mathlib.Core.List.{List}
 use Prim.Native.Nat.{ℕ, ◌*◌, ◌/◌, ◌≤◌}
 use native.Mathlib.Nat.{le-div_iff_mul-le, div-mul-le_self}

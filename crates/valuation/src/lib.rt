@@ -1,3 +1,2 @@
 // The value of a block of policies on a curve: definitions and theorems, no function.
 #![tactic(auto)]
-
