@@ -11,7 +11,7 @@ use Rattle.method.specs.Units.{Pair, pair, signed_pair}
 use Rattle.method.specs.Quotes.{highest_factor}
 use Rattle.method.specs.Series.{growth, growth_low, growth_high}
 use Rattle.method.specs.Extrapolation.{step_with, step, steps_with, steps}
-use Rattle.method.proofs.Quotients.{ceilDiv-≤}
+use Rattle.method.proofs.Quotients.{ceil_div-≤}
 use Rattle.method.proofs.SeriesBounds.{small_growth, small_growths}
 use Rattle.extrapolation.specs.Extrapolated.{step_by, step_range}
 use Rattle.adjustment.specs.Adjusting.{steps_by, Small}
@@ -36,9 +36,9 @@ over a d m h = div-le_of_le-mul d (rw (mul_comm d m) h)
 
 pub step_most : (up : Bool) (f : ℤ) (x : ℕ) → Small f → x ≤ step_range → step_by up f x ≤ x + 13_000_000
 unfolding growth
-step_most true (pos f) x s h = ceilDiv-≤ {d = growth_low f} (omega arith) (shrunk x (growth_low f) (omega arith))
+step_most true (pos f) x s h = ceil_div-≤ {d = growth_low f} (omega arith) (shrunk x (growth_low f) (omega arith))
 step_most false (pos f) x s h = over (x * U) (growth_high f) _ (shrunk x (growth_high f) (omega arith))
-step_most true (negsuc f) x s h = ceilDiv-≤ {d = U} (lit< tt) (grown x _ (small_growths (suc f) s.size).1 h)
+step_most true (negsuc f) x s h = ceil_div-≤ {d = U} (lit< tt) (grown x _ (small_growths (suc f) s.size).1 h)
 step_most false (negsuc f) x s h = over (x * growth_low (suc f)) U _ (grown x (growth_low (suc f)) (small_growths (suc f) s.size).0 h)
 
 -- ---- after `counter` of t steps

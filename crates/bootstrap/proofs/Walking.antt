@@ -7,7 +7,7 @@ use lib.IntN.{ℤ}
 use Rattle.method.specs.Units.{Pair, pair}
 use Rattle.method.specs.Quotes.{low_x, high_x, upper_end, Bootstrap, last_year, gap_after, gap_years}
 use Rattle.method.specs.Ranges.{Each, Factor}
-use Rattle.method.proofs.HalvingLaws.{lowX-≤-high_x, high_x-within}
+use Rattle.method.proofs.HalvingLaws.{low_x-≤-high_x, high_x-within}
 use Rattle.method.proofs.Outcome.{both_true}
 use Rattle.method.proofs.QuotesLaws.{ends_pass, gap_passes}
 use Rattle.method.proofs.QuotesBounds.{gap_in_order}
@@ -25,7 +25,7 @@ module _ (k : ℕ) (r : ℤ) (b : Bootstrap) (passes : ends_pass k r b.factors �
   pub factor_ordered : 0 < k → Each Factor b.factors → x.low ≤ x.high
   factor_ordered h e =
       let (low, high) = both_true _ _ passes in
-      rw factor (lowX-≤-high_x (gap_after b.factors k r) (gap_in_order k r h e) low high)
+      rw factor (low_x-≤-high_x (gap_after b.factors k r) (gap_in_order k r h e) low high)
 
   pub factor_within : x.high ≤ upper_end
   factor_within = rw factor (high_x-within (gap_after b.factors k r)).1

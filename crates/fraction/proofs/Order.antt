@@ -109,13 +109,13 @@ pub ≤→non_negative : {x : ℚ} → nat_ℚ 0 ≤ℚ x → NonNegative x
 unfolding nat_ℚ
 ≤→non_negative h = omega arith
 
-pub nonPositive→≤ : {x : ℚ} → NonPositive x → x ≤ℚ nat_ℚ 0
+pub non_positive→≤ : {x : ℚ} → NonPositive x → x ≤ℚ nat_ℚ 0
 unfolding nat_ℚ
-nonPositive→≤ h = omega arith
+non_positive→≤ h = omega arith
 
-pub ≤→nonPositive : {x : ℚ} → x ≤ℚ nat_ℚ 0 → NonPositive x
+pub ≤→non_positive : {x : ℚ} → x ≤ℚ nat_ℚ 0 → NonPositive x
 unfolding nat_ℚ
-≤→nonPositive h = omega arith
+≤→non_positive h = omega arith
 
 pub positive→< : {x : ℚ} → Positive x → nat_ℚ 0 <ℚ x
 unfolding nat_ℚ
@@ -135,7 +135,7 @@ pub positive_up : {x y : ℚ} → Positive x → x ≤ℚ y → Positive y
 positive_up n h = <→positive (<ℚ-≤ℚ-trans (positive→< n) h)
 
 pub non_positive_down : {x y : ℚ} → NonPositive y → x ≤ℚ y → NonPositive x
-non_positive_down n h = ≤→nonPositive (≤ℚ-trans h (nonPositive→≤ n))
+non_positive_down n h = ≤→non_positive (≤ℚ-trans h (non_positive→≤ n))
 
 -- each fraction is at least 0 or at most 0
 pub sign : (x : ℚ) → NonNegative x ⊎ NonPositive x

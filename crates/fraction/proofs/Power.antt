@@ -8,16 +8,16 @@ use Rattle.fraction.specs.Fraction.{ℚ, ◌≈◌, ◌≤ℚ◌, ◌<ℚ◌, No
 use Rattle.fraction.proofs.Order.{≤ℚ-refl, ≤ℚ-trans, ≈→≤, ≈-refl, ≈-sym, ≈-trans, ≤ℚ-≈-trans, ≈-≤ℚ-trans}
 use Rattle.fraction.proofs.Order.{≤ℚ-<ℚ-trans, <ℚ-≤ℚ-trans, <ℚ→≤ℚ, positive→non_negative, non_negative_up, ≡→≈}
 use Rattle.fraction.proofs.Integer.{nat_ℚ_non_negative, nat_ℚ_positive, natℚ-*}
-use Rattle.fraction.proofs.Sum.{+ℚ-comm, +ℚ-assoc, +ℚ-mono, +ℚ-cong, +ℚ-nonNegative, ≤-+ℚ-right, negℚ-+ℚ}
+use Rattle.fraction.proofs.Sum.{+ℚ-comm, +ℚ-assoc, +ℚ-mono, +ℚ-cong, +ℚ-non_negative, ≤-+ℚ-right, negℚ-+ℚ}
 use Rattle.fraction.proofs.Product.{*ℚ-comm, *ℚ-assoc, *ℚ-one, *ℚ-zero, *ℚ-+ℚ, *ℚ-cong, *ℚ-cong-left, *ℚ-cong-right}
-use Rattle.fraction.proofs.Product.{*ℚ-mono, *ℚ-mono-right, *ℚ-strict-left, *ℚ-nonNegative, *ℚ-positive}
+use Rattle.fraction.proofs.Product.{*ℚ-mono, *ℚ-mono-right, *ℚ-strict-left, *ℚ-non_negative, *ℚ-positive}
 
 -- ---- powers
 
 pub pow_ℚ_non_negative : {x : ℚ} → NonNegative x → (n : ℕ) → NonNegative (pow_ℚ x n)
 unfolding pow_ℚ
 pow_ℚ_non_negative h zero = nat_ℚ_non_negative 1
-pow_ℚ_non_negative h (suc n) = *ℚ-nonNegative (pow_ℚ_non_negative h n) h
+pow_ℚ_non_negative h (suc n) = *ℚ-non_negative (pow_ℚ_non_negative h n) h
 
 pub pow_ℚ_positive : {x : ℚ} → Positive x → (n : ℕ) → Positive (pow_ℚ x n)
 unfolding pow_ℚ
@@ -91,7 +91,7 @@ sum_ℚ_cong f g (suc n) h = +ℚ-cong (sum_ℚ_cong f g n (λ k l. h k (omega a
 pub sum_ℚ_non_negative : (f : ℕ → ℚ) (n : ℕ) → ((k : ℕ) → k < n → NonNegative (f k)) → NonNegative (sum_ℚ f n)
 unfolding sum_ℚ
 sum_ℚ_non_negative f zero h = nat_ℚ_non_negative 0
-sum_ℚ_non_negative f (suc n) h = +ℚ-nonNegative (sum_ℚ_non_negative f n (λ k l. h k (omega arith))) (h n (omega arith))
+sum_ℚ_non_negative f (suc n) h = +ℚ-non_negative (sum_ℚ_non_negative f n (λ k l. h k (omega arith))) (h n (omega arith))
 
 pub sum_ℚ_scale : (x : ℚ) (f : ℕ → ℚ) (n : ℕ) → x *ℚ sum_ℚ f n ≈ sum_ℚ (λ k. x *ℚ f k) n
 unfolding sum_ℚ

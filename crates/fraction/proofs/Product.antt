@@ -7,7 +7,7 @@ use native.Mathlib.Omega.{arith}
 use Rattle.fraction.specs.Fraction.{ℚ, ◌≈◌, ◌≤ℚ◌, ◌<ℚ◌, NonNegative, NonPositive, Positive, nat_ℚ, neg_ℚ, ◌+ℚ◌, ◌*ℚ◌}
 use Rattle.fraction.proofs.Order.{≤ℚ-trans, ≤ℚ-total, ≈→≤, ≈→≥, ≈-sym, ≈-trans, ≈-expand, <ℚ-irrefl, <ℚ-not-≤ℚ}
 use Rattle.fraction.proofs.Order.{not-≤ℚ→<ℚ, <ℚ-≤ℚ-trans, ≤ℚ-<ℚ-trans, ≤ℚ-≈-trans, ≈-≤ℚ-trans, non_negative→≤}
-use Rattle.fraction.proofs.Order.{≤→non_negative, positive→<, <→positive, neg_non_positive, nonPositive→≤, sign}
+use Rattle.fraction.proofs.Order.{≤→non_negative, positive→<, <→positive, neg_non_positive, non_positive→≤, sign}
 use Rattle.fraction.proofs.Sum.{neg_ℚ_anti}
 
 -- ---- a commutative ring
@@ -137,8 +137,8 @@ pub *ℚ-cancel-<-left : {x y z : ℚ} → NonNegative z → x *ℚ z <ℚ y *�
 
 -- ---- signs
 
-pub *ℚ-nonNegative : {x y : ℚ} → NonNegative x → NonNegative y → NonNegative (x *ℚ y)
-*ℚ-nonNegative {x} {y} n k = ≤→non_negative (≈-≤ℚ-trans (≈-sym (zero-*ℚ y)) (*ℚ-mono-left k (non_negative→≤ n)))
+pub *ℚ-non_negative : {x y : ℚ} → NonNegative x → NonNegative y → NonNegative (x *ℚ y)
+*ℚ-non_negative {x} {y} n k = ≤→non_negative (≈-≤ℚ-trans (≈-sym (zero-*ℚ y)) (*ℚ-mono-left k (non_negative→≤ n)))
 
 pub *ℚ-positive : {x y : ℚ} → Positive x → Positive y → Positive (x *ℚ y)
 *ℚ-positive {x} {y} n k = <→positive (≤ℚ-<ℚ-trans (≈→≥ (zero-*ℚ y)) (*ℚ-strict-left k (positive→< n)))
@@ -147,5 +147,5 @@ pub square_non_negative : (x : ℚ) → NonNegative (x *ℚ x)
 square_non_negative x = go (sign x)
   where
     go : NonNegative x ⊎ NonPositive x → NonNegative (x *ℚ x)
-    go (inl n) = *ℚ-nonNegative n n
-    go (inr n) = ≤→non_negative (≈-≤ℚ-trans (≈-sym (zero-*ℚ x)) (*ℚ-anti-left n (nonPositive→≤ n)))
+    go (inl n) = *ℚ-non_negative n n
+    go (inr n) = ≤→non_negative (≈-≤ℚ-trans (≈-sym (zero-*ℚ x)) (*ℚ-anti-left n (non_positive→≤ n)))

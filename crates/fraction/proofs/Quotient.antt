@@ -7,7 +7,7 @@ use Rattle.fraction.proofs.Order.{≤ℚ-trans, ≈→≤, ≈→≥, ≈-sym, �
 use Rattle.fraction.proofs.Order.{≤ℚ-<ℚ-trans, <ℚ-≤ℚ-trans, ≤ℚ-antisym, positive_up}
 use Rattle.fraction.proofs.Integer.{nat_ℚ_positive}
 use Rattle.fraction.proofs.Product.{*ℚ-comm, *ℚ-assoc, *ℚ-one, *ℚ-cong-left, *ℚ-cong-right, *ℚ-mono-left}
-use Rattle.fraction.proofs.Product.{*ℚ-mono-right, *ℚ-strict-left, *ℚ-nonNegative, *ℚ-positive, *ℚ-cancel-≤-left}
+use Rattle.fraction.proofs.Product.{*ℚ-mono-right, *ℚ-strict-left, *ℚ-non_negative, *ℚ-positive, *ℚ-cancel-≤-left}
 
 -- ---- reciprocals
 
@@ -97,7 +97,7 @@ pub ÷-mono : {x y z w : ℚ} → NonNegative y → Positive z → x ≤ℚ y �
 ÷-mono {w = w} n h k l = ≤ℚ-trans (÷-mono-left w k) (÷-anti-right n h l)
 
 pub ÷-non_negative : {x : ℚ} (y : ℚ) → NonNegative x → NonNegative (x ÷ y)
-÷-non_negative y n = *ℚ-nonNegative n (recip_non_negative y)
+÷-non_negative y n = *ℚ-non_negative n (recip_non_negative y)
 
 pub ÷-positive : {x y : ℚ} → Positive x → Positive y → Positive (x ÷ y)
 ÷-positive h k = *ℚ-positive h (recip_positive k)

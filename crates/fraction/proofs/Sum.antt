@@ -91,9 +91,9 @@ pub +ℚ-strict-right : {x y z w : ℚ} → x ≤ℚ y → z <ℚ w → x +ℚ z
 
 -- ---- signs
 
-pub +ℚ-nonNegative : {x y : ℚ} → NonNegative x → NonNegative y → NonNegative (x +ℚ y)
+pub +ℚ-non_negative : {x y : ℚ} → NonNegative x → NonNegative y → NonNegative (x +ℚ y)
 unfolding ◌+ℚ◌
-+ℚ-nonNegative {x} {y} n k = omega (arith, mul-le-mul_right y.d n.at_least, mul-le-mul_right x.d k.at_least)
++ℚ-non_negative {x} {y} n k = omega (arith, mul-le-mul_right y.d n.at_least, mul-le-mul_right x.d k.at_least)
 
 -- more is added
 pub ≤-+ℚ-right : (x : ℚ) {y : ℚ} → NonNegative y → x ≤ℚ x +ℚ y

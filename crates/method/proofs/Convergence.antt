@@ -7,7 +7,7 @@ use Rattle.fraction.specs.Fraction.{ℚ, ◌≈◌, ◌≤ℚ◌, NonNegative, P
 use Rattle.fraction.proofs.Order.{≤ℚ-refl, ≤ℚ-trans, ≤ℚ-≈-trans, ≈-≤ℚ-trans, ≈-refl, ≈-trans, ≈→≤, positive→non_negative}
 use Rattle.fraction.proofs.Decide.{computes, le_ℚ→≤}
 use Rattle.fraction.proofs.Sum.{+ℚ-cong, +ℚ-mono-left, neg_ℚ_cong, ≤→difference, ≤-+ℚ-right}
-use Rattle.fraction.proofs.Product.{*ℚ-cong, *ℚ-cong-right, *ℚ-one, *ℚ-mono, *ℚ-mono-left, *ℚ-mono-right, *ℚ-nonNegative}
+use Rattle.fraction.proofs.Product.{*ℚ-cong, *ℚ-cong-right, *ℚ-one, *ℚ-mono, *ℚ-mono-left, *ℚ-mono-right, *ℚ-non_negative}
 use Rattle.fraction.proofs.Product.{*ℚ-cancel-≤-left}
 use Rattle.fraction.proofs.Quotient.{*ℚ-recip, recip_cong, recip_anti, recip_non_negative}
 use Rattle.fraction.proofs.Power.{pow_ℚ_cong, pow_ℚ-falls}
@@ -16,7 +16,7 @@ use Rattle.fraction.proofs.Ring.{var, con, ⊖, ◌⊕◌, ◌⊗◌}
 use Rattle.fraction.proofs.RingFraction.{ring_ℚ}
 use Rattle.method.specs.True.{factorial, exp_sum, decay, convergence}
 use Rattle.method.proofs.Step.{recip_one}
-use Rattle.method.proofs.Growth.{exp_term, exp_sum_cong, expSum-≤, expSum-≥-1, exp_sum_positive}
+use Rattle.method.proofs.Growth.{exp_term, exp_sum_cong, exp_sum-≤, exp_sum-≥-1, exp_sum_positive}
 
 twice_half : nat_ℚ 2 *ℚ recip (nat_ℚ 2) ≈ nat_ℚ 1
 twice_half = *ℚ-recip (nat_ℚ_positive (omega arith))
@@ -75,7 +75,7 @@ module _ (n : ℕ) {α : ℚ} (p : Positive α) (h : α ≤ℚ fifth) where
 
   sum_most : exp_sum n α ≤ℚ nat_ℚ 1 +ℚ α +ℚ α *ℚ α
   sum_most =
-      ≤ℚ-≈-trans (expSum-≤ n some 2 (omega arith) (≤ℚ-trans (*ℚ-mono-right (nat_ℚ_non_negative 2) h) twice_fifth)) (three_terms α)
+      ≤ℚ-≈-trans (exp_sum-≤ n some 2 (omega arith) (≤ℚ-trans (*ℚ-mono-right (nat_ℚ_non_negative 2) h) twice_fifth)) (three_terms α)
 
   -- E (1 - α) is at most 1
   product_most : exp_sum n α *ℚ (nat_ℚ 1 -ℚ α) ≤ℚ nat_ℚ 1
@@ -83,7 +83,7 @@ module _ (n : ℕ) {α : ℚ} (p : Positive α) (h : α ≤ℚ fifth) where
       ≤ℚ-trans (*ℚ-mono-left (≤→difference (≤ℚ-trans h fifth-≤-1)) sum_most)
       (≈-≤ℚ-trans
       (ring_ℚ (α ∷ []) ((con 1 ⊕ var 0 ⊕ var 0 ⊗ var 0) ⊗ (con 1 ⊕ ⊖ (var 0))) (con 1 ⊕ ⊖ (var 0 ⊗ var 0 ⊗ var 0)) tt)
-      (less-≤ (nat_ℚ 1) (*ℚ-nonNegative (*ℚ-nonNegative some some) some)))
+      (less-≤ (nat_ℚ 1) (*ℚ-non_negative (*ℚ-non_negative some some) some)))
 
   pub decay_non_negative : NonNegative (decay n α)
   unfolding decay
@@ -91,7 +91,7 @@ module _ (n : ℕ) {α : ℚ} (p : Positive α) (h : α ≤ℚ fifth) where
 
   pub decay-≤-1 : decay n α ≤ℚ nat_ℚ 1
   unfolding decay
-  decay-≤-1 = ≤ℚ-trans (recip_anti (nat_ℚ_positive (omega arith)) (expSum-≥-1 n some)) (≈→≤ recip_one)
+  decay-≤-1 = ≤ℚ-trans (recip_anti (nat_ℚ_positive (omega arith)) (exp_sum-≥-1 n some)) (≈→≤ recip_one)
 
   -- 1 - q is at most α: times E it is E - 1, and E (1 - α) is at most 1
   rest_most : nat_ℚ 1 -ℚ decay n α ≤ℚ α
@@ -110,5 +110,5 @@ module _ (n : ℕ) {α : ℚ} (p : Positive α) (h : α ≤ℚ fifth) where
   unfolding convergence
   convergence_most h =
       let power = *ℚ-mono-right (recip_non_negative α) (power-≤-1 decay_non_negative decay-≤-1 (h - 1)) in
-      ≤ℚ-trans (*ℚ-mono (*ℚ-nonNegative (recip_non_negative α) (nat_ℚ_non_negative 1)) (≤→difference decay-≤-1) power rest_most)
+      ≤ℚ-trans (*ℚ-mono (*ℚ-non_negative (recip_non_negative α) (nat_ℚ_non_negative 1)) (≤→difference decay-≤-1) power rest_most)
       (≈→≤ (≈-trans (ring_ℚ (α ∷ recip α ∷ []) ((var 1 ⊗ con 1) ⊗ var 0) (var 0 ⊗ var 1) tt) (*ℚ-recip p)))

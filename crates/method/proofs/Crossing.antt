@@ -11,7 +11,7 @@ use Rattle.fraction.proofs.Order.{≤ℚ-trans, ≤ℚ-refl, ≤ℚ-≈-trans, �
 use Rattle.fraction.proofs.Order.{<ℚ→≤ℚ, <ℚ-≤ℚ-trans, ≤ℚ-<ℚ-trans, positive→non_negative, non_negative_up}
 use Rattle.fraction.proofs.Sum.{+ℚ-mono, +ℚ-mono-left, +ℚ-cong, +ℚ-strict, +ℚ-strict-left, +ℚ-strict-right, +ℚ-positive, neg_ℚ_cong}
 use Rattle.fraction.proofs.Product.{*ℚ-comm, *ℚ-cong-left, *ℚ-mono-left, *ℚ-mono-right, *ℚ-strict-left}
-use Rattle.fraction.proofs.Product.{*ℚ-strict-right, *ℚ-nonNegative, *ℚ-positive, *ℚ-cancel-<-left}
+use Rattle.fraction.proofs.Product.{*ℚ-strict-right, *ℚ-non_negative, *ℚ-positive, *ℚ-cancel-<-left}
 use Rattle.fraction.proofs.Integer.{nat_ℚ_non_negative, nat_ℚ_positive, int_ℚ-pos, int_ℚ_neg}
 use Rattle.fraction.proofs.Quotient.{÷-strict-left, ÷-positive}
 use Rattle.fraction.proofs.Power.{pow_ℚ_non_negative, pow_ℚ_mono, pow_ℚ_strict, powℚ-+, sum_ℚ_mono, sum_ℚ_scale}
@@ -77,7 +77,7 @@ lifted p σ a s s' l l' U W hp hσ ha hU hUW hs hl h =
     (<ℚ-≤ℚ-trans
     (≤ℚ-<ℚ-trans
     (≈→≤ (ring_ℚ (p ∷ σ ∷ a ∷ s' ∷ U ∷ []) ((var 0 ⊕ var 1 ⊗ (var 2 ⊕ var 3)) ⊗ var 4) (var 4 ⊗ (var 0 ⊕ var 1 ⊗ var 2) ⊕ var 1 ⊗ (var 4 ⊗ var 3)) tt))
-    (+ℚ-strict (*ℚ-strict-left (+ℚ-positive hp (*ℚ-nonNegative hσ ha)) hUW) (*ℚ-mono-right hσ hs)))
+    (+ℚ-strict (*ℚ-strict-left (+ℚ-positive hp (*ℚ-non_negative hσ ha)) hUW) (*ℚ-mono-right hσ hs)))
     (≈-≤ℚ-trans
     (ring_ℚ (p ∷ σ ∷ a ∷ s ∷ W ∷ []) (var 4 ⊗ (var 0 ⊕ var 1 ⊗ var 2) ⊕ var 1 ⊗ (var 4 ⊗ var 3)) (var 4 ⊗ (var 0 ⊕ var 1 ⊗ (var 2 ⊕ var 3))) tt)
     (≤ℚ-≈-trans (*ℚ-mono-right (non_negative_up hU (<ℚ→≤ℚ hUW)) h) (≈-trans hl (*ℚ-comm U l')))))

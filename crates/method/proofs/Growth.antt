@@ -72,23 +72,23 @@ unfolding exp_sum
 exp_sum_cong n {y} {z} e = sum_ℚ_cong (exp_term y) (exp_term z) (13 + n) (λ i l. ÷-cong-left (nat_ℚ (factorial i)) (pow_ℚ_cong e i))
 
 -- at least its first k terms
-pub expSum-≥ : (n : ℕ) {y : ℚ} → NonNegative y → (k : ℕ) → k ≤ 13 + n → sum_ℚ (exp_term y) k ≤ℚ exp_sum n y
+pub exp_sum-≥ : (n : ℕ) {y : ℚ} → NonNegative y → (k : ℕ) → k ≤ 13 + n → sum_ℚ (exp_term y) k ≤ℚ exp_sum n y
 unfolding exp_sum
-expSum-≥ n {y} p k l = sum_ℚ_more (exp_term y) (exp_term_non_negative p) k (13 + n) l
+exp_sum-≥ n {y} p k l = sum_ℚ_more (exp_term y) (exp_term_non_negative p) k (13 + n) l
 
 -- at most those and twice the next, for y up to (k + 1) / 2
-pub expSum-≤ : (n : ℕ) {y : ℚ} → NonNegative y → (k : ℕ) → k ≤ 13 + n → nat_ℚ 2 *ℚ y ≤ℚ nat_ℚ (suc k) →
+pub exp_sum-≤ : (n : ℕ) {y : ℚ} → NonNegative y → (k : ℕ) → k ≤ 13 + n → nat_ℚ 2 *ℚ y ≤ℚ nat_ℚ (suc k) →
     exp_sum n y ≤ℚ sum_ℚ (exp_term y) k +ℚ nat_ℚ 2 *ℚ exp_term y k
 unfolding exp_sum
-expSum-≤ n {y} p k l h = tail-≤ (exp_term y) (exp_term_non_negative p) k (exp_term_halves p k h) (13 + n) l
+exp_sum-≤ n {y} p k l h = tail-≤ (exp_term y) (exp_term_non_negative p) k (exp_term_halves p k h) (13 + n) l
 
-pub expSum-≥-1 : (n : ℕ) {y : ℚ} → NonNegative y → nat_ℚ 1 ≤ℚ exp_sum n y
+pub exp_sum-≥-1 : (n : ℕ) {y : ℚ} → NonNegative y → nat_ℚ 1 ≤ℚ exp_sum n y
 unfolding sum_ℚ
-expSum-≥-1 n {y} p =
-    ≈-≤ℚ-trans (≈-sym (≈-trans (zero-+ℚ (exp_term y 0)) (exp_term_zero y))) (expSum-≥ n p 1 (omega arith))
+exp_sum-≥-1 n {y} p =
+    ≈-≤ℚ-trans (≈-sym (≈-trans (zero-+ℚ (exp_term y 0)) (exp_term_zero y))) (exp_sum-≥ n p 1 (omega arith))
 
 pub exp_sum_positive : (n : ℕ) {y : ℚ} → NonNegative y → Positive (exp_sum n y)
-exp_sum_positive n p = positive_up (nat_ℚ_positive (zero-lt-suc 0)) (expSum-≥-1 n p)
+exp_sum_positive n p = positive_up (nat_ℚ_positive (zero-lt-suc 0)) (exp_sum-≥-1 n p)
 
 -- ---- the computed terms: from a pair that encloses f 0, pairs that enclose f 1, f 2, ..; f (j + 1) is f j × y / (i + j) U
 
@@ -194,16 +194,16 @@ pub growth_mono : {round round' : ℕ → ℕ → ℕ} → Below round round' �
 unfolding growth
 growth_mono b h = add-le-add (le_refl U) (growth_sum_mono b h 7 1 (le_refl U))
 
-pub growthLow-≥ : (y : ℕ) → U ≤ growth_low y
+pub growth_low-≥ : (y : ℕ) → U ≤ growth_low y
 unfolding growth
-growthLow-≥ y = omega arith
+growth_low-≥ y = omega arith
 
-pub growthLow-≤-growth_high : (y : ℕ) → growth_low y ≤ growth_high y
-growthLow-≤-growth_high y = omega (arith, growth_mono down_below_up (le_refl y))
+pub growth_low-≤-growth_high : (y : ℕ) → growth_low y ≤ growth_high y
+growth_low-≤-growth_high y = omega (arith, growth_mono down_below_up (le_refl y))
 
-growthRange-≤ : growth ceil_div growth_range < 1_300_000_000
+growth_range-≤ : growth ceil_div growth_range < 1_300_000_000
 unfolding growth growth_sum
-growthRange-≤ = lit< tt
+growth_range-≤ = lit< tt
 
-pub growthHigh-≤ : {y : ℕ} → y ≤ growth_range → growth_high y ≤ 1_300_000_000
-growthHigh-≤ {y} h = omega (arith, growth_mono up_below_up h, growthRange-≤, added_most 0 y)
+pub growth_high-≤ : {y : ℕ} → y ≤ growth_range → growth_high y ≤ 1_300_000_000
+growth_high-≤ {y} h = omega (arith, growth_mono up_below_up h, growth_range-≤, added_most 0 y)

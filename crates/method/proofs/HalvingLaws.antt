@@ -192,5 +192,5 @@ pub crossing : (g : Gap) (x y : ℕ) → InOrder g → surely_not_above g x ≡ 
 crossing g x y o above below =
     let no : y < x → ⊥ = λ yx. not_both g.rate g.years g.annuity g.start x y o yx above below in omega (arith, no)
 
-pub lowX-≤-high_x : (g : Gap) → InOrder g → surely_not_above g lower_end ≡ true → surely_not_below g upper_end ≡ true → low_x g ≤ high_x g
-lowX-≤-high_x g o low high = crossing g _ _ o (low_x_passes g low) (high_x_passes g high)
+pub low_x-≤-high_x : (g : Gap) → InOrder g → surely_not_above g lower_end ≡ true → surely_not_below g upper_end ≡ true → low_x g ≤ high_x g
+low_x-≤-high_x g o low high = crossing g _ _ o (low_x_passes g low) (high_x_passes g high)

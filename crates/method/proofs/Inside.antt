@@ -35,7 +35,7 @@ use Rattle.method.proofs.Following.{Pairwise, none, more, pairwise_length, pairw
 use Rattle.method.proofs.Quotients.{div_anti, ceil_div_anti, shrinks, grows, down_below_down, up_below_up}
 use Rattle.method.proofs.Slack.{added_most, one_added}
 use Rattle.method.proofs.Logarithm.{distance}
-use Rattle.method.proofs.Growth.{growth_mono, growthLow-≥, growthLow-≤-growth_high}
+use Rattle.method.proofs.Growth.{growth_mono, growth_low-≥, growth_low-≤-growth_high}
 use Rattle.method.proofs.Forward.{smaller_below, larger_above, encloses_weight}
 use Rattle.method.proofs.SheetBounds.{read_bounds}
 
@@ -167,22 +167,22 @@ growth_high_inside : {y z : ℕ} → y ≤ z → growth_high y ≤ growth_high_w
 growth_high_inside {y} {z} h = omega (arith, growth_mono up_below_up h, added_most 0 y, one_added 0 z)
 
 unit_below : (y : ℕ) → U ≤ growth_high_with 1 y
-unit_below y = le_trans (growthLow-≥ y) (le_trans (growthLow-≤-growth_high y) (growth_high_inside (le_refl y)))
+unit_below y = le_trans (growth_low-≥ y) (le_trans (growth_low-≤-growth_high y) (growth_high_inside (le_refl y)))
 
 low_step : (f g : ℤ) → f ≤ℤ g → {a b : ℕ} → a ≤ b → step_low_with 1 g a ≤ step_low f b
 low_step (pos f) (pos g) h k =
-    div_anti (mul-le-mul_right U k) (omega (arith, growthLow-≥ f, growthLow-≤-growth_high f)) (growth_high_inside (leb→le f g h.le))
+    div_anti (mul-le-mul_right U k) (omega (arith, growth_low-≥ f, growth_low-≤-growth_high f)) (growth_high_inside (leb→le f g h.le))
 low_step (negsuc f) (pos g) h {a} {b} k =
-    le_trans (shrinks a U-positive (unit_below g)).0 (le_trans k (grows b U-positive (growthLow-≥ (suc f))).0)
+    le_trans (shrinks a U-positive (unit_below g)).0 (le_trans k (grows b U-positive (growth_low-≥ (suc f))).0)
 low_step (pos f) (negsuc g) h k = absurd h.le
 low_step (negsuc f) (negsuc g) h k =
     down_below_down.below U (mul-le-mul k (growth_mono down_below_down (suc-le-suc (leb→le g f h.le))))
 
 high_step : (f g : ℤ) → g ≤ℤ f → {a b : ℕ} → a ≤ b → step_high f a ≤ step_high_with 1 g b
 high_step (pos f) (pos g) h k =
-    ceil_div_anti (mul-le-mul_right U k) (omega (arith, growthLow-≥ g)) (growth_mono down_below_down (leb→le g f h.le))
+    ceil_div_anti (mul-le-mul_right U k) (omega (arith, growth_low-≥ g)) (growth_mono down_below_down (leb→le g f h.le))
 high_step (pos f) (negsuc g) h {a} {b} k =
-    le_trans (shrinks a U-positive (growthLow-≥ f)).1 (le_trans k (grows b U-positive (unit_below (suc g))).1)
+    le_trans (shrinks a U-positive (growth_low-≥ f)).1 (le_trans k (grows b U-positive (unit_below (suc g))).1)
 high_step (negsuc f) (pos g) h k = absurd h.le
 high_step (negsuc f) (negsuc g) h k = up_below_up.below U (mul-le-mul k (growth_high_inside (suc-le-suc (leb→le f g h.le))))
 

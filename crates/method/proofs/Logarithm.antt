@@ -11,10 +11,10 @@ use lib.IntN.{pos, neg_ℤ}
 use Rattle.fraction.specs.Fraction.{ℚ, ◌≈◌, ◌≤ℚ◌, NonNegative, NonPositive, Positive, nat_ℚ, neg_ℚ, ◌+ℚ◌, ◌-ℚ◌, ◌*ℚ◌, ◌÷◌, recip, pow_ℚ, sum_ℚ}
 use Rattle.fraction.specs.Rounding.{U, ceil_div, Encloses}
 use Rattle.fraction.proofs.Order.{≤ℚ-trans, ≤ℚ-antisym, ≤ℚ-≈-trans, ≈-≤ℚ-trans, ≈→≤, ≈→≥, ≈-refl, ≈-sym, ≈-trans, sign}
-use Rattle.fraction.proofs.Order.{non_negative→≤, nonPositive→≤, non_negative_up, neg_non_positive, positive_up, positive→non_negative}
+use Rattle.fraction.proofs.Order.{non_negative→≤, non_positive→≤, non_negative_up, neg_non_positive, positive_up, positive→non_negative}
 use Rattle.fraction.proofs.Sum.{neg_ℚ_reflects, +ℚ-cong, +ℚ-mono-left, +ℚ-mono-right, neg_ℚ_cong, neg_ℚ_anti, +ℚ-positive}
 use Rattle.fraction.proofs.Product.{*ℚ-assoc, *ℚ-one, one-*ℚ, *ℚ-cong-left, *ℚ-cong-right, *ℚ-cong, *ℚ-mono}
-use Rattle.fraction.proofs.Product.{*ℚ-mono-right, *ℚ-nonNegative, *ℚ-negℚ, negℚ-*ℚ, square_non_negative}
+use Rattle.fraction.proofs.Product.{*ℚ-mono-right, *ℚ-non_negative, *ℚ-negℚ, negℚ-*ℚ, square_non_negative}
 use Rattle.fraction.proofs.Quotient.{*ℚ-recip, *ℚ-÷, ÷-unique, ÷-mono-left, ÷-cong-left, ÷-anti-right, ÷-non_negative, recip_cong}
 use Rattle.fraction.proofs.Power.{sum_ℚ-first, sum_ℚ_neg, pow_ℚ_non_negative, sum_ℚ_mono, sum_ℚ_cong, sum_ℚ_scale}
 use Rattle.fraction.proofs.Integer.{nat_ℚ_non_negative, nat_ℚ_positive, nat_ℚ_mono, nat_ℚ_reflects, natℚ-+, natℚ-*}
@@ -53,7 +53,7 @@ odd_power_neg z (suc i) =
 odd_power_non_negative : {z : ℚ} → NonNegative z → (i : ℕ) → NonNegative (odd_power z i)
 unfolding odd_power
 odd_power_non_negative n zero = n
-odd_power_non_negative {z} n (suc i) = *ℚ-nonNegative (odd_power_non_negative n i) (square_non_negative z)
+odd_power_non_negative {z} n (suc i) = *ℚ-non_negative (odd_power_non_negative n i) (square_non_negative z)
 
 odd_power_mono_above : {x y : ℚ} → NonNegative x → x ≤ℚ y → (i : ℕ) → odd_power x i ≤ℚ odd_power y i
 unfolding odd_power
@@ -76,7 +76,7 @@ odd_power_mono {x} {y} h i = go (sign x) (sign y)
   where
     go : NonNegative x ⊎ NonPositive x → NonNegative y ⊎ NonPositive y → odd_power x i ≤ℚ odd_power y i
     go (inl n) _ = odd_power_mono_above n h i
-    go (inr p) (inl n) = ≤ℚ-trans (nonPositive→≤ (odd_power_non_positive p i)) (non_negative→≤ (odd_power_non_negative n i))
+    go (inr p) (inl n) = ≤ℚ-trans (non_positive→≤ (odd_power_non_positive p i)) (non_negative→≤ (odd_power_non_negative n i))
     go (inr p) (inr q) =
         neg_ℚ_reflects
         (≈-≤ℚ-trans (≈-sym (odd_power_neg y i))
@@ -113,7 +113,7 @@ artanh_term_halves {z} n h i =
     ≤ℚ-trans
     (*ℚ-mono-right (nat_ℚ_non_negative 2)
     (≈-≤ℚ-trans (artanh_term_is z (suc i))
-    (÷-anti-right (*ℚ-nonNegative np (square_non_negative z)) (nat_ℚ_positive (omega arith)) (nat_ℚ_mono odd))))
+    (÷-anti-right (*ℚ-non_negative np (square_non_negative z)) (nat_ℚ_positive (omega arith)) (nat_ℚ_mono odd))))
     (≈-≤ℚ-trans
     (ring_ℚ (p ∷ z ∷ recip (nat_ℚ (2 * i + 1)) ∷ []) (con 2 ⊗ ((var 0 ⊗ (var 1 ⊗ var 1)) ⊗ var 2)) ((var 0 ⊗ (con 2 ⊗ (var 1 ⊗ var 1))) ⊗ var 2) tt)
     (≤ℚ-≈-trans (÷-mono-left (nat_ℚ (2 * i + 1)) (*ℚ-mono-right np h))
@@ -153,7 +153,7 @@ ratio_anti {b} {x} {y} p n h =
     let l : b +ℚ x ≤ℚ b +ℚ y = +ℚ-mono-right b h in
     ≈-≤ℚ-trans (ratio_is b y (positive_up px l))
     (≤ℚ-≈-trans
-    (+ℚ-mono-left (neg_ℚ (nat_ℚ 1)) (÷-anti-right (*ℚ-nonNegative (nat_ℚ_non_negative 2) (positive→non_negative p)) px l))
+    (+ℚ-mono-left (neg_ℚ (nat_ℚ 1)) (÷-anti-right (*ℚ-non_negative (nat_ℚ_non_negative 2) (positive→non_negative p)) px l))
     (≈-sym (ratio_is b x px)))
 
 pub minus_log_anti : (n : ℕ) {x y : ℚ} → NonNegative x → x ≤ℚ y → minus_log n y ≤ℚ minus_log n x
@@ -200,7 +200,7 @@ unfolding computes
 zero_tail = le_ℚ→≤ tt
 
 twice_non_negative : NonNegative (billion *ℚ nat_ℚ 2)
-twice_non_negative = *ℚ-nonNegative (nat_ℚ_non_negative U) (nat_ℚ_non_negative 2)
+twice_non_negative = *ℚ-non_negative (nat_ℚ_non_negative U) (nat_ℚ_non_negative 2)
 
 -- a × b / U in units of U
 scaled_is : (x y : ℚ) → ((billion *ℚ x) *ℚ (billion *ℚ y)) ÷ billion ≈ billion *ℚ (x *ℚ y)

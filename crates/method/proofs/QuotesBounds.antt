@@ -21,7 +21,7 @@ use Rattle.method.specs.Quotes.{Gap, annuity, trial, last_of, surely_not_above, 
 use Rattle.method.specs.Quotes.{highest_factor, par_numerator, par_denominator, par_low, par_high, next_year, quoted_year, inside_years}
 use Rattle.method.specs.Quotes.{Bootstrap, last_year, gap_after, gap_years, Quote, years_to, bootstrap_from, quotes_of, bootstrap}
 use Rattle.method.proofs.TrialLaws.{Ordered, down_up}
-use Rattle.method.proofs.HalvingLaws.{InOrder, low_x-within, high_x-within, lowX-≤-high_x}
+use Rattle.method.proofs.HalvingLaws.{InOrder, low_x-within, high_x-within, low_x-≤-high_x}
 use Rattle.method.proofs.Outcome.{done_injective, bind_done, both_true}
 use Rattle.method.proofs.QuotesLaws.{quoted_next, inside_none, inside_more, next_done, inside, ends_pass, gap_inverse}
 use Rattle.method.proofs.QuotesLaws.{par_inverse, years_cases, from_none, from_cons, quotes_none, quotes_more, bootstrap_from_lem}
@@ -164,7 +164,7 @@ gap_inside_bounded zero r ps p d e = rw (← done_injective (sym (inside_none �
 gap_inside_bounded (suc k) r ps p d e =
     let g = gap_after ps (suc k) r in
     let ends = both_true (surely_not_above g lower_end) (surely_not_below g upper_end) p in
-    inside_bounded down_up (lowX-≤-high_x g (gap_in_order (suc k) r (zero-lt-suc k) e) ends.0 ends.1) (suc k - 1) _ _ ps (last_year_factor e).ordered d e
+    inside_bounded down_up (low_x-≤-high_x g (gap_in_order (suc k) r (zero-lt-suc k) e) ends.0 ends.1) (suc k - 1) _ _ ps (last_year_factor e).ordered d e
 
 module _ (k : ℕ) (r : ℤ) (b : Bootstrap) {c : Bootstrap} (d : gap_years k r b ≡ done c) where
   pub gap_bounded : Bounded b → Bounded c
@@ -215,8 +215,8 @@ climbs_more n g m ms h =
     let (b, c) = both_true (leb (m - n) 30) (climbs m (gaps_with (m - n) g) ms) rest in
     (ltb-true n m a, leb-true (m - n) 30 b, c)
 
-gapsWith-≥ : (k g : ℕ) → g ≤ gaps_with k g
-gapsWith-≥ k g = go (eqb k 1)
+gaps_with-≥ : (k g : ℕ) → g ≤ gaps_with k g
+gaps_with-≥ k g = go (eqb k 1)
   where
     go : (t : Bool) → g ≤ cond t g (g + 1)
     go true = omega arith
@@ -226,7 +226,7 @@ pub climbs-within : (n g : ℕ) (ms : List ℕ) → climbs n g ms ≡ true → (
 climbs-within n g [] h = climbs_end n g h
 climbs-within n g (m ∷ ms) h =
     let (rises, short, rest) = climbs_more n g m ms h in
-    omega (arith, climbs-within m (gaps_with (m - n) g) ms rest, gapsWith-≥ (m - n) g)
+    omega (arith, climbs-within m (gaps_with (m - n) g) ms rest, gaps_with-≥ (m - n) g)
 
 pub years_length : (q : Quote) (b : Bootstrap) {c : Bootstrap} → length b.factors < q.maturity → years_to q b ≡ done c →
     (length c.factors ≡ q.maturity) × (length c.yearly_factors ≡ gaps_with (q.maturity - length b.factors) (length b.yearly_factors))

@@ -64,8 +64,8 @@ ratio-* a c {b} {d} h k =
     (*ℚ-cong (≈-sym (natℚ-* a c)) (≈-trans (*ℚ-cong (*ℚ-recip (nat_ℚ_positive h)) (*ℚ-recip (nat_ℚ_positive k))) (*ℚ-one (nat_ℚ 1))))
     (*ℚ-one (nat_ℚ (a * c))))))
 
-pub ceilDiv-≤ : {a m d : ℕ} → 0 < d → a ≤ m * d → ceil_div a d ≤ m
-ceilDiv-≤ {a} {m} {d} h l =
+pub ceil_div-≤ : {a m d : ℕ} → 0 < d → a ≤ m * d → ceil_div a d ≤ m
+ceil_div-≤ {a} {m} {d} h l =
     let next : ceil_div a d < suc m = (div-lt_iff_lt-mul h).1 (omega arith) in
     omega arith
 
@@ -79,13 +79,13 @@ div_anti {a} {b} {c} {e} h p k = (le-div_iff_mul-le p).1 (le_trans (mul-le-mul_l
 
 pub ceil_div_anti : {a b c e : ℕ} → a ≤ b → 0 < c → c ≤ e → ceil_div a e ≤ ceil_div b c
 ceil_div_anti {a} {b} {c} {e} h p k =
-    ceilDiv-≤ (omega arith) (le_trans h (le_trans (ceil_div_covers b c p) (mul-le-mul_left (ceil_div b c) k)))
+    ceil_div-≤ (omega arith) (le_trans h (le_trans (ceil_div_covers b c p) (mul-le-mul_left (ceil_div b c) k)))
 
 -- over d and times e, at least d: no more than there was; the other way about, no less
 pub shrinks : (a : ℕ) {d e : ℕ} → 0 < d → d ≤ e → (a * d / e ≤ a) × (ceil_div (a * d) e ≤ a)
 shrinks a {d} {e} p h =
     let whole = mul-le-mul_left a h in
-    (div-le_of_le-mul e (omega (arith, whole)), ceilDiv-≤ (omega arith) whole)
+    (div-le_of_le-mul e (omega (arith, whole)), ceil_div-≤ (omega arith) whole)
 
 pub grows : (a : ℕ) {d e : ℕ} → 0 < d → d ≤ e → (a ≤ a * e / d) × (a ≤ ceil_div (a * e) d)
 grows a p h =
@@ -113,8 +113,8 @@ down_below_up = record { below = λ d h. div_mono d (omega arith) }
 
 -- neither side passes a bound that the exact quotient keeps
 pub round-≤ : (up : Bool) {a m d : ℕ} → 0 < d → a ≤ m * d → round_ℕ up a d ≤ m
-round-≤ true h l = ceilDiv-≤ h l
-round-≤ false {a} {m} {d} h l = le_trans (down_below_up.below d (le_refl a)) (ceilDiv-≤ h l)
+round-≤ true h l = ceil_div-≤ h l
+round-≤ false {a} {m} {d} h l = le_trans (down_below_up.below d (le_refl a)) (ceil_div-≤ h l)
 
 -- ---- a product over d, part by part: the whole ds of one factor need no rounding. One law for down and up
 

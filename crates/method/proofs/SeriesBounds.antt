@@ -11,7 +11,7 @@ use Rattle.method.specs.Units.{Pair, SignedPair, signed_pair}
 use Rattle.method.specs.Quotes.{lower_end, upper_end}
 use Rattle.method.specs.Series.{logarithm_sum, logarithm, G, gap_forward_with, gap_forward, ultimate_forward_with, ultimate_forward}
 use Rattle.method.specs.Series.{growth_sum, growth, growth_low, growth_high}
-use Rattle.method.proofs.Quotients.{Below, down_below_up, up_below_up, ceilDiv-≤}
+use Rattle.method.proofs.Quotients.{Below, down_below_up, up_below_up, ceil_div-≤}
 use Rattle.method.proofs.Slack.{added_most}
 use Rattle.method.proofs.Growth.{growth_mono}
 use Rattle.method.proofs.Logarithm.{distance, logarithm_low, logarithm_high, G-cases}
@@ -33,18 +33,18 @@ s_bound = 12_345_680
 
 module _ {round : ℕ → ℕ → ℕ} (b : Below round ceil_div) where
   pub z-≤ : (d x : ℕ) → 9 * d ≤ U + x → round (d * U) (U + x) ≤ z_bound
-  z-≤ d x h = le_trans (b.below (U + x) (le_refl (d * U))) (ceilDiv-≤ (omega arith) (omega arith))
+  z-≤ d x h = le_trans (b.below (U + x) (le_refl (d * U))) (ceil_div-≤ (omega arith) (omega arith))
 
   pub s-≤ : {z : ℕ} → z ≤ z_bound → round (z * z) U ≤ s_bound
   s-≤ h = le_trans (b.below U (mul-le-mul h h)) (lit≤ tt)
 
   -- p falls from one step to the next
   pub p-≤ : (p : ℕ) {s : ℕ} → s ≤ s_bound → round (p * s) U ≤ p
-  p-≤ p {s} h = le_trans (b.below U (mul-le-mul_left p h)) (ceilDiv-≤ {d = U} (lit< tt) (omega arith))
+  p-≤ p {s} h = le_trans (b.below U (mul-le-mul_left p h)) (ceil_div-≤ {d = U} (lit< tt) (omega arith))
 
   -- t of the growth does not pass U
   pub t-≤ : {i t y : ℕ} → 0 < i → t ≤ U → y ≤ growth_range → round (t * y) (i * U) ≤ U
-  t-≤ {i} {t} {y} p h k = le_trans (b.below (i * U) (mul-le-mul h k)) (ceilDiv-≤ (omega arith) (omega arith))
+  t-≤ {i} {t} {y} p h k = le_trans (b.below (i * U) (mul-le-mul h k)) (ceil_div-≤ (omega arith) (omega arith))
 
   logarithm_sum_mono : (k odd : ℕ) {s s' p p' : ℕ} → s ≤ s' → p ≤ p' → logarithm_sum round s odd p k ≤ logarithm_sum ceil_div s' odd p' k
   unfolding logarithm_sum

@@ -10,7 +10,7 @@ use lib.Dec.{lit<}
 use lib.IntN.{ℤ, pos, negsuc, nat_abs, ◌-ℤ◌}
 use Rattle.fraction.specs.Fraction.{ℚ, ◌≈◌, ◌≤ℚ◌, ◌<ℚ◌, NonNegative, le_ℚ, nat_ℚ, int_ℚ, neg_ℚ, ◌+ℚ◌, ◌-ℚ◌, ◌*ℚ◌, ◌÷◌, recip}
 use Rattle.fraction.proofs.Order.{≤ℚ-trans, ≤ℚ-≈-trans, ≈-≤ℚ-trans, ≈-refl, ≈-sym, ≈-trans, ≈→≤, ≈→≥, <ℚ-not-≤ℚ, <ℚ-≤ℚ-trans}
-use Rattle.fraction.proofs.Order.{≤ℚ-<ℚ-trans, non_negative→≤, nonPositive→≤, neg_non_negative, non_negative_up}
+use Rattle.fraction.proofs.Order.{≤ℚ-<ℚ-trans, non_negative→≤, non_positive→≤, neg_non_negative, non_negative_up}
 use Rattle.fraction.proofs.Decide.{computes, le_ℚ→≤, ≤→le_ℚ, lt_ℚ→<, eq_ℚ→≈}
 use Rattle.fraction.proofs.Sum.{+ℚ-cong, neg_ℚ_cong, neg_ℚ_anti, neg_ℚ_strict, neg_ℚ-neg_ℚ}
 use Rattle.fraction.proofs.Product.{*ℚ-cong, negℚ-*ℚ}
@@ -166,7 +166,7 @@ above_minus m = <ℚ-≤ℚ-trans minus_half (non_negative→≤ (non_negative_u
 
 negative : (m : ℕ) → rate (negsuc m) <ℚ half
 negative m =
-    let below-0 = ≤ℚ-trans (≈→≤ (rate_negsuc m)) (nonPositive→≤ (neg_non_negative (quoted_non_negative (suc m)))) in
+    let below-0 = ≤ℚ-trans (≈→≤ (rate_negsuc m)) (non_positive→≤ (neg_non_negative (quoted_non_negative (suc m)))) in
     ≤ℚ-<ℚ-trans below-0 above_0
 
 to_minus : {m : ℕ} → 499 ≤ m → rate (negsuc m) ≤ℚ neg_ℚ half

@@ -14,7 +14,7 @@ use lib.ListN.{length, get_or}
 use Rattle.fraction.specs.Fraction.{ℚ, ◌≈◌, ◌≤ℚ◌, ◌<ℚ◌, NonNegative, Positive, le_ℚ, nat_ℚ, int_ℚ, neg_ℚ, recip, ◌*ℚ◌, ◌÷◌, pow_ℚ, sum_ℚ}
 use Rattle.fraction.specs.Rounding.{ceil_div, Encloses}
 use Rattle.fraction.proofs.Order.{≤ℚ-refl, ≤ℚ-trans, ≤ℚ-total, ≤ℚ-antisym, ≈→≤, ≈→≥, ≈-sym, ≈-trans, ≡→≈, ≈-≤ℚ-trans}
-use Rattle.fraction.proofs.Order.{<ℚ→≤ℚ, <ℚ-not-≤ℚ, non_negative→≤, ≤→non_negative, ≤→nonPositive, neg_non_positive}
+use Rattle.fraction.proofs.Order.{<ℚ→≤ℚ, <ℚ-not-≤ℚ, non_negative→≤, ≤→non_negative, ≤→non_positive, neg_non_positive}
 use Rattle.fraction.proofs.Decide.{le_ℚ→≤, ≤→le_ℚ}
 use Rattle.fraction.proofs.Sum.{+ℚ-cong, +ℚ-zero, zero-+ℚ, neg_ℚ_anti, neg_ℚ_cong, neg_ℚ-neg_ℚ}
 use Rattle.fraction.proofs.Product.{*ℚ-cong-left, *ℚ-cong-right, *ℚ-one, one-*ℚ, *ℚ-zero, zero-*ℚ, negℚ-*ℚ, *ℚ-mono-right, *ℚ-positive}
@@ -32,7 +32,7 @@ use Rattle.method.specs.Extrapolation.{forward, step_low, step_high, step_with, 
 use Rattle.method.specs.True.{billion, factorial, exp_sum, exp, convergence, year_forward, extrapolated}
 use Rattle.method.proofs.Enclosed.{AllEnclosed, none, more}
 use Rattle.method.proofs.Outcome.{bind_done, demand_done, done_injective}
-use Rattle.method.proofs.Growth.{exp_sum_mono, exp_sum_cong, expSum-≥-1, exp_sum_positive, growth_encloses}
+use Rattle.method.proofs.Growth.{exp_sum_mono, exp_sum_cong, exp_sum-≥-1, exp_sum_positive, growth_encloses}
 use Rattle.method.proofs.Size.{Within}
 use Rattle.method.proofs.Forward.{Weighs, weight_ordered, forward_encloses, forward_bound_lem}
 
@@ -68,7 +68,7 @@ pub recip_one : recip (nat_ℚ 1) ≈ nat_ℚ 1
 recip_one = ≈-trans (≈-sym (one-*ℚ _)) (*ℚ-recip (nat_ℚ_positive (omega arith)))
 
 negated : {y : ℚ} → y <ℚ nat_ℚ 0 → NonNegative (neg_ℚ y)
-negated h = neg_non_positive (≤→nonPositive (<ℚ→≤ℚ h))
+negated h = neg_non_positive (≤→non_positive (<ℚ→≤ℚ h))
 
 both_0 : {y : ℚ} → NonNegative y → nat_ℚ 0 ≤ℚ neg_ℚ y → (y ≈ nat_ℚ 0) × (neg_ℚ y ≈ nat_ℚ 0)
 unfolding nat_ℚ neg_ℚ
@@ -106,7 +106,7 @@ exp_mono n {y} {z} h = go (≤ℚ-total (nat_ℚ 0) y) (≤ℚ-total (nat_ℚ 0)
     go (inl a) (inr b) = absurd (<ℚ-not-≤ℚ b (≤ℚ-trans a h))
     go (inr a) (inl b) =
         rw (exp_negative n a, exp_non_negative n b)
-        (≤ℚ-trans (recip_anti (nat_ℚ_positive (omega arith)) (expSum-≥-1 n (negated a))) (≈-≤ℚ-trans recip_one (expSum-≥-1 n (≤→non_negative b))))
+        (≤ℚ-trans (recip_anti (nat_ℚ_positive (omega arith)) (exp_sum-≥-1 n (negated a))) (≈-≤ℚ-trans recip_one (exp_sum-≥-1 n (≤→non_negative b))))
     go (inr a) (inr b) =
         rw (exp_negative n a, exp_negative n b) (recip_anti (exp_sum_positive n (negated b)) (exp_sum_mono n (negated b) (neg_ℚ_anti h)))
 

@@ -24,7 +24,7 @@ use Rattle.fraction.proofs.Ring.{var, con, ⊖, ◌⊕◌, ◌⊗◌}
 use Rattle.fraction.proofs.RingFraction.{ring_ℚ}
 use Rattle.method.specs.Table.{table}
 use Rattle.method.specs.True.{billion, factorial, decay, convergence}
-use Rattle.method.proofs.Growth.{exp_term, expSum-≥, expSum-≤, exp_sum_positive}
+use Rattle.method.proofs.Growth.{exp_term, exp_sum-≥, exp_sum-≤, exp_sum_positive}
 
 -- ---- q lies from a / D to b / D: so do its powers, and 1 - q from (D - b) / D to (D - a) / D
 
@@ -172,9 +172,9 @@ tenth_halves : nat_ℚ 2 *ℚ tenth ≤ℚ nat_ℚ 14
 unfolding computes
 tenth_halves = le_ℚ→≤ tt
 
-decayLow-≤ : nat_ℚ decay_low ≤ℚ nat_ℚ decay_scale *ℚ recip (sum_ℚ (exp_term tenth) 13 +ℚ nat_ℚ 2 *ℚ exp_term tenth 13)
+decay_low-≤ : nat_ℚ decay_low ≤ℚ nat_ℚ decay_scale *ℚ recip (sum_ℚ (exp_term tenth) 13 +ℚ nat_ℚ 2 *ℚ exp_term tenth 13)
 unfolding computes factorial
-decayLow-≤ = le_ℚ→≤ tt
+decay_low-≤ = le_ℚ→≤ tt
 
 ≤-decay_high : nat_ℚ decay_scale *ℚ recip (sum_ℚ (exp_term tenth) 13) ≤ℚ nat_ℚ decay_high
 unfolding computes factorial
@@ -192,11 +192,11 @@ decay-ends n =
       positive = lit< tt;
       at_most_1 = lit≤ tt;
       below =
-          ≤ℚ-trans decayLow-≤
-          (*ℚ-mono-right (nat_ℚ_non_negative decay_scale) (recip_anti (exp_sum_positive n p) (expSum-≤ n p 13 (omega arith) tenth_halves)));
+          ≤ℚ-trans decay_low-≤
+          (*ℚ-mono-right (nat_ℚ_non_negative decay_scale) (recip_anti (exp_sum_positive n p) (exp_sum-≤ n p 13 (omega arith) tenth_halves)));
       above =
           ≤ℚ-trans
-          (*ℚ-mono-right (nat_ℚ_non_negative decay_scale) (recip_anti (positive_up (nat_ℚ_positive (lit< tt)) sum_positive) (expSum-≥ n p 13 (omega arith))))
+          (*ℚ-mono-right (nat_ℚ_non_negative decay_scale) (recip_anti (positive_up (nat_ℚ_positive (lit< tt)) sum_positive) (exp_sum-≥ n p 13 (omega arith))))
           ≤-decay_high;
     }
 

@@ -9,7 +9,7 @@ use Rattle.fraction.specs.Fraction.{ℚ, ◌≈◌, ◌≤ℚ◌, NonNegative, n
 use Rattle.fraction.specs.Rounding.{Encloses}
 use Rattle.fraction.proofs.Order.{≤ℚ-refl, ≤ℚ-trans, ≤ℚ-≈-trans, ≈-≤ℚ-trans, ≈-sym}
 use Rattle.fraction.proofs.Sum.{+ℚ-mono, +ℚ-mono-right, ≤-+ℚ-right}
-use Rattle.fraction.proofs.Product.{*ℚ-nonNegative, *ℚ-mono-right, *ℚ-+ℚ}
+use Rattle.fraction.proofs.Product.{*ℚ-non_negative, *ℚ-mono-right, *ℚ-+ℚ}
 use Rattle.fraction.proofs.Power.{sum_ℚ_more}
 use Rattle.fraction.proofs.Integer.{nat_ℚ_non_negative, natℚ-+}
 use Rattle.fraction.proofs.Enclosure.{nat_encloses, nat_below, nat_above}
@@ -35,7 +35,7 @@ module _ (f : ℕ → ℚ) (n : (i : ℕ) → NonNegative (f i)) (k : ℕ) (halv
   tail-≤ j h =
       let c = le_dest h in
       subst (λ (m : ℕ). sum_ℚ f m ≤ℚ sum_ℚ f k +ℚ nat_ℚ 2 *ℚ f k) c.1
-      (≤ℚ-trans (≤-+ℚ-right (sum_ℚ f (k + c.0)) (*ℚ-nonNegative (nat_ℚ_non_negative 2) (n (k + c.0)))) (falls c.0))
+      (≤ℚ-trans (≤-+ℚ-right (sum_ℚ f (k + c.0)) (*ℚ-non_negative (nat_ℚ_non_negative 2) (n (k + c.0)))) (falls c.0))
 
   -- where that is at most m, a pair that encloses c × the first k terms encloses c × any longer sum once m is added to its high
   pub tail_covered : {c : ℚ} → NonNegative c → (m : ℕ) → c *ℚ (nat_ℚ 2 *ℚ f k) ≤ℚ nat_ℚ m → {low high : ℕ} →

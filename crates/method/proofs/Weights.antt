@@ -27,8 +27,8 @@ use Rattle.method.specs.Table.{table}
 use Rattle.method.specs.Extrapolation.{κ_pairs, scaled, decay_pair, scale_pair, cut_to_unit, weights_from, weights}
 use Rattle.method.specs.True.{billion, exp_sum, decay, convergence}
 use Rattle.method.proofs.Outcome.{split}
-use Rattle.method.proofs.Quotients.{nat_exact, ratio-≤, same_ratio, ceilDiv-≤}
-use Rattle.method.proofs.Growth.{exp_sum_cong, exp_sum_positive, growth_encloses, growthLow-≥, growthLow-≤-growth_high}
+use Rattle.method.proofs.Quotients.{nat_exact, ratio-≤, same_ratio, ceil_div-≤}
+use Rattle.method.proofs.Growth.{exp_sum_cong, exp_sum_positive, growth_encloses, growth_low-≥, growth_low-≤-growth_high}
 use Rattle.method.proofs.Forward.{Weighs, κ_pairs_weigh}
 use Rattle.method.proofs.Step.{ratio_is}
 use Rattle.method.proofs.TableRule.{Ends, rest_low, rest_high, tenth, table-length, table_rule, table_below}
@@ -84,8 +84,8 @@ module _ (n a : ℕ) (least : 10_000_000 ≤ a) (most : a ≤ 20_000_000) where
   decay_holds : Holds (decay_pair a) q
   unfolding decay_pair decay
   decay_holds =
-      let low = lt_of_lt_of_le U-positive (growthLow-≥ (10 * a)) in
-      let high = lt_of_lt_of_le low (growthLow-≤-growth_high (10 * a)) in
+      let low = lt_of_lt_of_le U-positive (growth_low-≥ (10 * a)) in
+      let high = lt_of_lt_of_le low (growth_low-≤-growth_high (10 * a)) in
       encloses-≈ (ratio_is billion (exp_sum_positive n (positive→non_negative α_positive)))
       (encloses_ratio low high (encloses_product (nat_exact U) (nat_exact U)) growth_holds)
 
@@ -94,7 +94,7 @@ module _ (n a : ℕ) (least : 10_000_000 ≤ a) (most : a ≤ 20_000_000) where
   decay-ends =
       record {
         positive = U-positive;
-        at_most_1 = ceilDiv-≤ {d = growth_low (10 * a)} (omega (arith, growthLow-≥ (10 * a))) (mul-le-mul_left U (growthLow-≥ (10 * a)));
+        at_most_1 = ceil_div-≤ {d = growth_low (10 * a)} (omega (arith, growth_low-≥ (10 * a))) (mul-le-mul_left U (growth_low-≥ (10 * a)));
         below = nat_below decay_holds;
         above = nat_above decay_holds;
       }

@@ -126,17 +126,17 @@ non_negative : (z : ℤ) → lt_z z (pos 0) ≡ false → non_neg z ≡ true
 non_negative (pos n) h = refl
 non_negative (negsuc n) h = absurd (subst T h tt)
 
-lt→not-leZ : (a b : ℤ) → lt_z a b ≡ true → le_z b a ≡ false
-lt→not-leZ (pos a) (pos b) h = lt-leb b a (ltb-true a b h)
-lt→not-leZ (pos a) (negsuc b) h = absurd (subst T (sym h) tt)
-lt→not-leZ (negsuc a) (pos b) h = refl
-lt→not-leZ (negsuc a) (negsuc b) h = lt-leb a b (ltb-true b a h)
+lt→not_le_z : (a b : ℤ) → lt_z a b ≡ true → le_z b a ≡ false
+lt→not_le_z (pos a) (pos b) h = lt-leb b a (ltb-true a b h)
+lt→not_le_z (pos a) (negsuc b) h = absurd (subst T (sym h) tt)
+lt→not_le_z (negsuc a) (pos b) h = refl
+lt→not_le_z (negsuc a) (negsuc b) h = lt-leb a b (ltb-true b a h)
 
-not-lt→leZ : (a b : ℤ) → lt_z a b ≡ false → le_z b a ≡ true
-not-lt→leZ (pos a) (pos b) h = le-leb b a (ltb-false a b h)
-not-lt→leZ (pos a) (negsuc b) h = refl
-not-lt→leZ (negsuc a) (pos b) h = absurd (subst T h tt)
-not-lt→leZ (negsuc a) (negsuc b) h = le-leb a b (ltb-false b a h)
+not_lt→le_z : (a b : ℤ) → lt_z a b ≡ false → le_z b a ≡ true
+not_lt→le_z (pos a) (pos b) h = le-leb b a (ltb-false a b h)
+not_lt→le_z (pos a) (negsuc b) h = refl
+not_lt→le_z (negsuc a) (pos b) h = absurd (subst T h tt)
+not_lt→le_z (negsuc a) (negsuc b) h = le-leb a b (ltb-false b a h)
 
 module _ {z : ℤ} (fits : SFits w64 z) where
   pub read_negative : lt_z (stored z) (pos 0) ≡ true → non_neg z ≡ false
@@ -148,16 +148,16 @@ module _ {z : ℤ} (fits : SFits w64 z) where
   -- against a bound
   module _ (b : ℤ) where
     pub read_below : lt_z (stored z) b ≡ true → le_z b z ≡ false
-    read_below h = lt→not-leZ z b (rw (to_z-of_z w64 z fits) at h)
+    read_below h = lt→not_le_z z b (rw (to_z-of_z w64 z fits) at h)
 
     pub read_not_below : lt_z (stored z) b ≡ false → le_z b z ≡ true
-    read_not_below h = not-lt→leZ z b (rw (to_z-of_z w64 z fits) at h)
+    read_not_below h = not_lt→le_z z b (rw (to_z-of_z w64 z fits) at h)
 
     pub read_above : lt_z b (stored z) ≡ true → le_z z b ≡ false
-    read_above h = lt→not-leZ b z (rw (to_z-of_z w64 z fits) at h)
+    read_above h = lt→not_le_z b z (rw (to_z-of_z w64 z fits) at h)
 
     pub read_not_above : lt_z b (stored z) ≡ false → le_z z b ≡ true
-    read_not_above h = not-lt→leZ b z (rw (to_z-of_z w64 z fits) at h)
+    read_not_above h = not_lt→le_z b z (rw (to_z-of_z w64 z fits) at h)
 
 pub one_non_neg : (z : ℤ) → le_z (pos 1) z ≡ true → T (non_neg z)
 one_non_neg (pos n) h = tt

@@ -7,18 +7,18 @@ use native.Mathlib.Omega.{arith}
 use Rattle.fraction.specs.Rounding.{U, round_ℕ}
 use Rattle.method.specs.Ranges.{growth_range, growth_bound}
 use Rattle.method.specs.Series.{added, growth_sum, growth}
-use Rattle.method.proofs.Growth.{growthLow-≥, growthLow-≤-growth_high, growthHigh-≤}
+use Rattle.method.proofs.Growth.{growth_low-≥, growth_low-≤-growth_high, growth_high-≤}
 use Rattle.method.proofs.SeriesBounds.{t-≤}
 use Rattle.series.specs.Sides.{growth_by}
 use Rattle.series.proofs.Logarithm.{side_below}
 
 pub growth_least : (up : Bool) (y : ℕ) → U ≤ growth_by up y
-growth_least true y = le_trans (growthLow-≥ y) (growthLow-≤-growth_high y)
-growth_least false y = growthLow-≥ y
+growth_least true y = le_trans (growth_low-≥ y) (growth_low-≤-growth_high y)
+growth_least false y = growth_low-≥ y
 
 growth_most : (up : Bool) {y : ℕ} → y ≤ growth_range → growth_by up y ≤ growth_bound
-growth_most true h = growthHigh-≤ h
-growth_most false {y} h = le_trans (growthLow-≤-growth_high y) (growthHigh-≤ h)
+growth_most true h = growth_high-≤ h
+growth_most false {y} h = le_trans (growth_low-≤-growth_high y) (growth_high-≤ h)
 
 pub growth_in_range : (up : Bool) {y r : ℕ} → y ≤ growth_range → r ≡ growth_by up y → (r ≡ growth_by up y) × (U ≤ r) × (r ≤ growth_bound)
 growth_in_range up {y} h e = (e, rw e (growth_least up y), rw e (growth_most up h))

@@ -12,7 +12,7 @@ use Rattle.fraction.proofs.Enclosure.{encloses_times, encloses-÷-nat}
 use Rattle.method.specs.Units.{Pair, pair}
 use Rattle.method.specs.Grounds.{Ground, Outcome, refused, done}
 use Rattle.method.proofs.Outcome.{bind_done, done_injective}
-use Rattle.method.proofs.Quotients.{ceilDiv-≤, ceil_div_covers}
+use Rattle.method.proofs.Quotients.{ceil_div-≤, ceil_div_covers}
 use Rattle.valuation.specs.Block.{Flow, block_checked, worth_by, value_by}
 use Rattle.valuation.specs.Meaning.{entry_at, RightTo, cost_of, exact_value, LargestWithin, SmallestCovering, Valued, ListTells, BlockTells}
 use Rattle.valuation.proofs.Checks.{count_wrong, all_right, first_year, first_cents, passed_right}
@@ -22,7 +22,7 @@ largest-within : (a : ℕ) → LargestWithin a (a / 1_000_000_000)
 largest-within a = record { no_more = div-mul-le_self a 1_000_000_000; largest = λ n h. (le-div_iff_mul-le {k = 1_000_000_000} (omega arith)).1 h }
 
 pub smallest_covering : (a : ℕ) → SmallestCovering a (ceil_div a 1_000_000_000)
-smallest_covering a = record { no_less = ceil_div_covers a 1_000_000_000 (omega arith); smallest = λ n h. ceilDiv-≤ (omega arith) h }
+smallest_covering a = record { no_less = ceil_div_covers a 1_000_000_000 (omega arith); smallest = λ n h. ceil_div-≤ (omega arith) h }
 
 -- an answer that hands on every ground of the list
 pub list_tells : {A : Type 0} (fs : List Flow) (a : Outcome A) → ((g : Ground) → block_checked fs ≡ refused g → a ≡ refused g) → ListTells fs a
