@@ -1,5 +1,6 @@
 -- The promise: block by block and pass by pass, the desk prints what is printed for the whole input.
-use Rattle.std.proofs.Common.{◌≡◌, ℕ, zero, suc, ◌+◌, ◌<◌, ◌≤◌, Bool, true, false, cond, eqb, List, [], ◌∷◌, ◌++◌, length, drop, sym, refl, ap, ◌∙◌, append_assoc, append-nil, arith, length-append, length-drop, eqb-true}
+use Rattle.std.proofs.Common.{◌≡◌, ℕ, zero, suc, ◌+◌, ◌<◌, ◌≤◌, Bool, true, false, cond, eqb, List, [], ◌∷◌, ◌++◌, length, drop, sym, refl, ap, ◌∙◌}
+use Rattle.std.proofs.Common.{append_assoc, append-nil, arith, length-append, length-drop, eqb-true}
 use borrow.Author.Tests.{eqb-false}
 use Rattle.journal.specs.Journal.{Front, cut, desk_front}
 use Rattle.desk_core.specs.Lines.{broken_line}

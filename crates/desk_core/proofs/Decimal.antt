@@ -1,5 +1,6 @@
 -- The digits that std and `itoa` write are those of the definition.
-use Rattle.std.proofs.Common.{◌≡◌, ℕ, zero, suc, ◌*◌, ◌/◌, ◌^◌, ◌<◌, ◌≤◌, ◌+◌, ◌-◌, Bool, true, false, leb, List, [], ◌++◌, length, take, drop, refl, append-nil, take_all, pow-suc, arith, le-ltb, lt-ltb, leb-false, leb-true}
+use Rattle.std.proofs.Common.{◌≡◌, ℕ, zero, suc, ◌*◌, ◌/◌, ◌^◌, ◌<◌, ◌≤◌, ◌+◌, ◌-◌, Bool, true, false, leb, List, [], ◌++◌, length, take, drop, refl}
+use Rattle.std.proofs.Common.{append-nil, take_all, pow-suc, arith, le-ltb, lt-ltb, leb-false, leb-true}
 use Rattle.std.specs.Fmt as text
 use Rattle.std.proofs.lemmas.Fmt.{decimal_digit, decimal_step}
 use Rattle.desk_core.specs.Lines.{digits_to, decimal}

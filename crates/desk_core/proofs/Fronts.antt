@@ -1,5 +1,6 @@
 -- What stands at the front of some bytes s, and of the same bytes with more behind them.
-use Rattle.std.proofs.Common.{◌≡◌, ℕ, ◌+◌, ◌<◌, ◌≤◌, Bool, true, false, cond, eqb, leb, List, [], ◌∷◌, ◌++◌, length, get_or, drop, refl, ap, arith, length-append, length-drop, ne_eqb, le-leb, leb-false, leb-true}
+use Rattle.std.proofs.Common.{◌≡◌, ℕ, ◌+◌, ◌<◌, ◌≤◌, Bool, true, false, cond, eqb, leb, List, [], ◌∷◌, ◌++◌, length, get_or, drop, refl, ap, arith}
+use Rattle.std.proofs.Common.{length-append, length-drop, ne_eqb, le-leb, leb-false, leb-true}
 use lib.ListN.{get_or-append}
 use lib.Seq.{take-append-le, drop-append-le}
 use Rattle.method.specs.Units.{plain}

@@ -1,5 +1,7 @@
 -- Bytes moved to the front, one by one; and bytes read behind those that are held.
-use Rattle.std.proofs.Common.{◌≡◌, ℕ, ◌+◌, ◌-◌, ◌<◌, ◌≤◌, List, ◌++◌, length, get_or, take, drop, set, sym, refl, ap, ◌∙◌, add-zero, add-one, arith, length-drop, length-set, length-take-le, get_or-drop, take-suc, drop-drop, take-suc-set, take_at, drop-set-lt, take-add, drop_at}
+use Rattle.std.proofs.Common.{◌≡◌, ℕ, ◌+◌, ◌-◌, ◌<◌, ◌≤◌, List, ◌++◌, length, get_or, take, drop, set, sym, refl, ap, ◌∙◌, add-zero, add-one, arith}
+use Rattle.std.proofs.Common.{length-drop, length-set, length-take-le, get_or-drop, take-suc, drop-drop, take-suc-set, take_at, drop-set-lt, take-add}
+use Rattle.std.proofs.Common.{drop_at}
 use native.Mathlib.Nat.{add-sub_cancel_left}
 
 -- the first i are in place, those not yet read are as they were

@@ -1,5 +1,6 @@
 -- One pass, record by record: its text, and then what is printed from where it stopped, is all that is printed.
-use Rattle.std.proofs.Common.{◌≡◌, ℕ, zero, suc, ◌+◌, ◌-◌, ◌<◌, ◌≤◌, Bool, true, false, cond, leb, List, [], ◌∷◌, ◌++◌, length, drop, sym, refl, ap, ◌∙◌, append_assoc, add-zero, add_assoc, arith, length-append, length-drop, drop-drop, le-leb, leb-true}
+use Rattle.std.proofs.Common.{◌≡◌, ℕ, zero, suc, ◌+◌, ◌-◌, ◌<◌, ◌≤◌, Bool, true, false, cond, leb, List, [], ◌∷◌, ◌++◌, length, drop, sym, refl, ap}
+use Rattle.std.proofs.Common.{◌∙◌, append_assoc, add-zero, add_assoc, arith, length-append, length-drop, drop-drop, le-leb, leb-true}
 use lib.Seq.{drop-append-le}
 use borrow.Author.Tests.{lt-leb}
 use Rattle.ledger.specs.Book.{Book}

@@ -1,5 +1,6 @@
 -- Bytes put behind bytes.
-use Rattle.std.proofs.Common.{◌≡◌, ℕ, ◌+◌, ◌-◌, ◌<◌, ◌≤◌, List, [], ◌∷◌, ◌++◌, length, get_or, take, drop, sym, refl, ap, ◌∙◌, append_assoc, append-nil, zero-add, add-one, arith, length-append, take-append-drop, length-take-le, take_all, take-suc, take_at}
+use Rattle.std.proofs.Common.{◌≡◌, ℕ, ◌+◌, ◌-◌, ◌<◌, ◌≤◌, List, [], ◌∷◌, ◌++◌, length, get_or, take, drop, sym, refl, ap, ◌∙◌, append_assoc}
+use Rattle.std.proofs.Common.{append-nil, zero-add, add-one, arith, length-append, take-append-drop, length-take-le, take_all, take-suc, take_at}
 use lib.Seq.{take-length}
 use Rattle.desk_core.specs.Lines.{decimal, spaced}
 use Rattle.desk_core.specs.Handed.{Puts}

@@ -1,5 +1,6 @@
 -- The loop of a pass, record by record: the lines put so far, and then the pass over what is left.
-use Rattle.std.proofs.Common.{◌≡◌, ℕ, ◌+◌, ◌-◌, ◌%◌, ◌^◌, ◌<◌, ◌≤◌, Bool, false, List, [], ◌++◌, length, get_or, take, drop, sym, refl, ap, ◌∙◌, append_assoc, append-nil, add-zero, add_assoc, zero-add, arith, length-drop, length-take-le, drop-drop}
+use Rattle.std.proofs.Common.{◌≡◌, ℕ, ◌+◌, ◌-◌, ◌%◌, ◌^◌, ◌<◌, ◌≤◌, Bool, false, List, [], ◌++◌, length, get_or, take, drop, sym, refl, ap, ◌∙◌}
+use Rattle.std.proofs.Common.{append_assoc, append-nil, add-zero, add_assoc, zero-add, arith, length-drop, length-take-le, drop-drop}
 use Rattle.ledger.specs.Book.{Book}
 use Rattle.book.specs.declared.Book.{Book as DeclaredBook}
 use Rattle.book.specs.Views.{as_book}

@@ -13,7 +13,8 @@ use Rattle.ledger.specs.Answers.{factor}
 use Rattle.ledger.specs.Calls.{Call, post_of, turn_to, withdrawal, look_at, asks, run, run_from}
 use Rattle.ledger.specs.Tells.{read2}
 use Rattle.book.specs.Views.{as_book}
-use Rattle.journal.specs.Journal.{Front, whole, cut, unknown, sheet_at, sheet_length, sheet_in, record_of, post_front, turn_front, look_front, desk_front, front}
+use Rattle.journal.specs.Journal.{Front, whole, cut, unknown, sheet_at, sheet_length, sheet_in, record_of, post_front, turn_front, look_front}
+use Rattle.journal.specs.Journal.{desk_front, front}
 use Rattle.journal.specs.Journal.{and_then, decode_from, decode}
 use Rattle.journal.specs.Replies.{book_after, taken}
 use Rattle.journal.specs.Made.{Makes}

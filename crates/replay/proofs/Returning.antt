@@ -64,7 +64,8 @@ module _ {A : Type 0} (size : ℕ) (bytes : A → List ℕ) (lent : List ℕ) {o
 
 -- ---- a shift's
 
-pub shift_put : (s : ℤ) (lent : List ℕ) {n : ℕ} {out : List ℕ} → n ≡ twos_complement32 s → out ≡ put_at 0 (in_bytes 2 n) lent → out ≡ shift_bytes s ++ drop 2 lent
+pub shift_put : (s : ℤ) (lent : List ℕ) {n : ℕ} {out : List ℕ} → n ≡ twos_complement32 s → out ≡ put_at 0 (in_bytes 2 n) lent →
+    out ≡ shift_bytes s ++ drop 2 lent
 shift_put s lent e put =
     put ∙ ap (λ (k : ℕ). put_at 0 (in_bytes 2 k) lent) e ∙ put_first (shift_bytes s) lent
     ∙ ap (λ (k : ℕ). shift_bytes s ++ drop k lent) (in_bytes-length 2 (twos_complement32 s))

@@ -9,6 +9,10 @@ use Rattle.method.specs.Sheet.{Slot, no_slot, first_failure}
 use Rattle.method.proofs.Slots.{failure_later, failure_here, failure_none}
 use Rattle.sheet.specs.Records.{or_else}
 
+pub or_found : (found later : ℕ) → (found ≡ 0 → ⊥) → found ≡ or_else found later
+or_found zero later n = absurd (n refl)
+or_found (suc found) later n = refl
+
 module _ (p : Slot → Bool) (ts : List Slot) where
   -- `found` is the place of the first failure before index i, or 0: then the slots from i on decide
   abbrev pub Found : ℕ → ℕ → Type 0

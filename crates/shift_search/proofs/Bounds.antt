@@ -1,18 +1,25 @@
--- What code that tries a shift may count on: numbers in their ranges where the quotes stay inside theirs.
+-- What code that tries a shift may count on: its size, and numbers in their ranges where the quotes stay inside theirs.
 use mathlib.Core.Path.{◌≡◌, refl, ◌∙◌}
 use mathlib.Core.Bool.{true}
 use mathlib.Core.List.{List}
-use Prim.Native.Nat.{ℕ}
+use Prim.Native.Nat.{ℕ, ◌≤◌}
+use native.Mathlib.Omega.{arith}
 use borrow.Author.Tests.{ltb-true, ltb-false}
 use lib.Dec.{ltb}
-use lib.IntN.{ℤ, pos}
+use lib.IntN.{ℤ, pos, nat_abs}
 use lib.ListN.{length, get_or, length-map, get_or-eq_default}
 use Rattle.method.specs.Sheet.{Numbers}
 use Rattle.method.specs.Ranges.{RateInRange, NumbersInRange}
 use Rattle.method.proofs.Outcome.{split}
 use Rattle.method.proofs.SheetBounds.{integer_range}
-use Rattle.shift.specs.Shift.{shifted_rates, shifted, quotes_inside}
+use Rattle.shift.specs.Shift.{shifted_rates, shifted, quotes_inside, shift_at}
 use Rattle.shift.proofs.Ranges.{inside_each}
+
+pub shift_size : (i : ℕ) → i ≤ 1_000 → nat_abs (shift_at i) ≤ 500
+shift_size i h =
+    split (ltb i 500)
+    (λ q. let low = ltb-true i 500 q in rw q (omega arith))
+    (λ q. let high = ltb-false i 500 q in rw q (omega arith))
 
 -- past the end stands 0, which is inside too
 quotes_in_range : (zs : List ℤ) → quotes_inside zs ≡ true → (i : ℕ) → RateInRange (get_or zs i (pos 0))

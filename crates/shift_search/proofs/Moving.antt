@@ -1,5 +1,5 @@
 -- One quote, moved in 64 bits and kept in 16; and quotes inside their range, those from an index on.
-use mathlib.Core.Path.{◌≡◌, ap, ◌∙◌}
+use mathlib.Core.Path.{◌≡◌, refl, ap, ◌∙◌}
 use mathlib.Core.Bool.{true, false}
 use mathlib.Core.List.{List, ◌∷◌}
 use Prim.Native.Nat.{ℕ, ◌+◌, ◌≤◌, ◌<◌}
@@ -9,14 +9,14 @@ use lib.IntN.{ℤ, pos, nat_abs, ◌+ℤ◌}
 use lib.ListN.{length, drop, get_or, drop_of_length-le}
 use lib.Seq.{drop-cons}
 use lib.Signed.{nat_abs-le}
-use mir.Syntax.{w16}
+use mir.Syntax.{w16, w64}
 use mir.Val.{SFits, of_z, to_z}
 use mir.ValLaws.{to_z-of_z}
 use Rattle.method.specs.Ranges.{RateInRange}
 use Rattle.method.proofs.SheetBounds.{integer_range}
 use Rattle.shift.specs.Shift.{quotes_inside}
 use Rattle.shift.proofs.Ranges.{inside, inside_first}
-use Rattle.rounding.proofs.Machine.{stored, Computed, integer, given, held, plus, read}
+use Rattle.rounding.proofs.Machine.{stored, Computed, integer, given, held, plus, fits, read}
 
 -- ---- one quote
 
@@ -38,12 +38,18 @@ module _ (z s : ℤ) (range : RateInRange z) (few : nat_abs s ≤ 500) where
   abbrev moved : Computed
   moved = plus (held quote tt) (held (integer s 500 few) tt)
 
+  pub quote_fits : SFits w64 (kept z)
+  quote_fits = fits quote tt
+
+  pub moved_fits : SFits w64 (stored (kept z) +ℤ stored s)
+  moved_fits = fits moved tt
+
   pub moved_is : stored (stored (kept z) +ℤ stored s) ≡ z +ℤ s
   moved_is = read moved tt
 
   -- put back, where it stays inside
   module _ (e : inside (z +ℤ s) ≡ true) where
-    back_fits : SFits w16 (stored (stored (kept z) +ℤ stored s))
+    pub back_fits : SFits w16 (stored (stored (kept z) +ℤ stored s))
     back_fits = rw moved_is (rate_fits (integer_range (z +ℤ s) e))
 
     pub back_is : kept (stored (stored (kept z) +ℤ stored s)) ≡ z +ℤ s

@@ -126,7 +126,9 @@ market_marks p vs =
 
 pub selected_all : (p : Profile) {volumes : List ℕ} {rates : List ℤ} {q : Quotes} → Selected (smoothing_index p) volumes rates q (quote_count p) →
     ((i : ℕ) → mag (get_or (take (quote_count p) rates) i (pos 0)) ≤ 12_000) →
-    (as_quotes q ≡ kept (used (smoothing_index p) (take (volume_count p) volumes)) (quotes_of (quoted_maturities p) (take (quote_count p) rates))) × QuotesClimb q
+    (as_quotes q
+    ≡ kept (used (smoothing_index p) (take (volume_count p) volumes)) (quotes_of (quoted_maturities p) (take (quote_count p) rates)))
+    × QuotesClimb q
 unfolding quoted_maturities
 selected_all p {volumes} {rates} {q} at small =
     let us = used (smoothing_index p) (take (volume_count p) volumes) in

@@ -12,7 +12,10 @@ use Rattle.book.proofs.post.Goals as goal
 pub returns-in_default : goal.returns-in_default
 returns-in_default c =
     let told = c.in_default.is in
-    let refusal = at_verdict _ told c.read-read.ensures.outcome in let all = down (c.turned_down.ensures.verdict, (c.turned_down.ensures.beside, c.turned_down.ensures.kept)) told (post_refused (as_book c.args.book) _ refusal) in record { booked = all.0; beside = all.1 }
+    let refusal = at_verdict _ told c.read-read.ensures.outcome in
+    let kept = c.turned_down.ensures in
+    let all = down (kept.verdict, (kept.beside, kept.kept)) told (post_refused (as_book c.args.book) _ refusal) in
+    record { booked = all.0; beside = all.1 }
 
 pub post_numbers-requires : goal.post_numbers-requires
 post_numbers-requires c =
@@ -23,4 +26,8 @@ post_numbers-requires c =
 pub returns : goal.returns
 returns c =
     let numbers = at_verdict _ c.in-Passed.is c.read-read.ensures.outcome in
-    let read = post_read (as_book c.args.book) _ numbers in record { booked = c.post_numbers.ensures.booked ∙ sym read; beside = c.post_numbers.ensures.beside ∙ ap (λ (r : Booked ℕ). result_or 0 r.answer) (sym read) }
+    let read = post_read (as_book c.args.book) _ numbers in
+    record {
+      booked = c.post_numbers.ensures.booked ∙ sym read;
+      beside = c.post_numbers.ensures.beside ∙ ap (λ (r : Booked ℕ). result_or 0 r.answer) (sym read);
+    }

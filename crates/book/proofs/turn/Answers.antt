@@ -9,13 +9,23 @@ use Rattle.book.proofs.turn.Goals as goal
 
 pub returns-then-month-gt2399 : goal.returns-then-month-gt2399
 returns-then-month-gt2399 c =
-    let above = turn_above (as_book c.args.book) _ c.if-month-gt2399.true in let all = down (c.turned_down.ensures.verdict, (c.turned_down.ensures.beside, c.turned_down.ensures.kept)) refl above in record { booked = all.0; beside = all.1 }
+    let above = turn_above (as_book c.args.book) _ c.if-month-gt2399.true in
+    let kept = c.turned_down.ensures in
+    let all = down (kept.verdict, (kept.beside, kept.kept)) refl above in
+    record { booked = all.0; beside = all.1 }
 
 pub returns-then-month-book : goal.returns-then-month-book
 returns-then-month-book c =
-    let before = turn_before (as_book c.args.book) _ c.if-month-gt2399.false c.if-month-book.true in let all = down (c.turned_down-then-month-book.ensures.verdict, (c.turned_down-then-month-book.ensures.beside, c.turned_down-then-month-book.ensures.kept)) refl before in record { booked = all.0; beside = all.1 }
+    let before = turn_before (as_book c.args.book) _ c.if-month-gt2399.false c.if-month-book.true in
+    let kept = c.turned_down-then-month-book.ensures in
+    let all = down (kept.verdict, (kept.beside, kept.kept)) refl before in
+    record { booked = all.0; beside = all.1 }
 
 pub returns : goal.returns
 returns c =
     let a = c.args in
-    let to = turn_to_lem (as_book a.book) a.month c.if-month-gt2399.false c.if-month-book.false in record { booked = ap (λ (b : Book). saying b a.month) c.with_told.ensures ∙ sym to; beside = ap (λ (r : Booked ℕ). result_or 0 r.answer) (sym to) }
+    let to = turn_to_lem (as_book a.book) a.month c.if-month-gt2399.false c.if-month-book.false in
+    record {
+      booked = ap (λ (b : Book). saying b a.month) c.with_told.ensures ∙ sym to;
+      beside = ap (λ (r : Booked ℕ). result_or 0 r.answer) (sym to);
+    }

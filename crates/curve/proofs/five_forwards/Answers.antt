@@ -18,7 +18,8 @@ all_volumes s =
 
 pub gap_forwards-requires : goal.gap_forwards-requires
 gap_forwards-requires c =
-    five_in_range c.requires.0 c.requires.1 c.args.n.volumes (all_volumes (goal.at.gap_forwards-requires c).Start) c.spread_out-lows.ensures c.spread_out-highs.ensures
+    let volumes = all_volumes (goal.at.gap_forwards-requires c).Start in
+    five_in_range c.requires.0 c.requires.1 c.args.n.volumes volumes c.spread_out-lows.ensures c.spread_out-highs.ensures
 
 pub returns : goal.returns
 returns c =

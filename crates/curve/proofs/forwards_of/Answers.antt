@@ -28,4 +28,5 @@ one_forward-requires c =
 pub returns-in-FromFifteen : goal.returns-in-FromFifteen
 returns-in-FromFifteen c =
     let p = ap as_profile c.in-FromFifteen.is in
-    let is = c.one_forward.ensures.0 ∙ ap (λ (y : Pair). gap_forward y ∷ []) (second (goal.at.returns-in-FromFifteen c).After-gap_x) in record { outcome = one_stretch c.requires (ap volume_count p) (from_15 c.requires p) c.one_forward.result is; sizes = c.one_forward.ensures.1 }
+    let is = c.one_forward.ensures.0 ∙ ap (λ (y : Pair). gap_forward y ∷ []) (second (goal.at.returns-in-FromFifteen c).After-gap_x) in
+    record { outcome = one_stretch c.requires (ap volume_count p) (from_15 c.requires p) c.one_forward.result is; sizes = c.one_forward.ensures.1 }

@@ -111,8 +111,11 @@ returns c =
     let points = goal.at.returns c in
     let pre = c.requires in
     let n = as_numbers c.args.n in
-    let quoted = first_quoted pre.0 c.first_years.result (first_lows points.After-first_years) (first_highs points.After-first_years) ∙ sym (liquid_years n pre.0.worked (liquid points.After-smoothing_year-year).1) in
+    let first = points.After-first_years in
+    let b = liquid points.After-smoothing_year-year in
+    let quoted =
+    first_quoted pre.0 c.first_years.result (first_lows first) (first_highs first) ∙ sym (liquid_years n pre.0.worked b.1) in
     let made =
-    curves_from_lem n (liquid points.After-smoothing_year-year).0 (liquid points.After-smoothing_year-year).1
-    ∙ ap₂ (λ (gs : List SignedPair) (ps : List Pair). curves_from n gs ps) (done_injective (liquid points.After-smoothing_year-year).2) (sym quoted) in
-    let r = c.both.ensures in record { outcome = r.outcome ∙ sym made; beside = r.beside ∙ ap (result_or no_curves) (sym made); unused = r.unused }
+    curves_from_lem n b.0 b.1 ∙ ap₂ (λ (gs : List SignedPair) (ps : List Pair). curves_from n gs ps) (done_injective b.2) (sym quoted) in
+    let r = c.both.ensures in
+    record { outcome = r.outcome ∙ sym made; beside = r.beside ∙ ap (result_or no_curves) (sym made); unused = r.unused }

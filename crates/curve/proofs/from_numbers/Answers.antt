@@ -19,4 +19,6 @@ worked c = c.bootstrap-quotes.ensures.outcome ∙ ap bootstrap c.select.ensures.
 pub returns-in_default : goal.returns-in_default
 returns-in_default c =
     let told = c.in_default.is in
-    let says = refused_alone c.unworked.ensures.verdict told c.unworked.ensures.beside (quotes_refused _ (at_verdict _ told (worked (goal.at.returns-in_default c).After-bootstrap-quotes))) in record { outcome = says.0; beside = says.1; unused = λ e. c.unworked.ensures.unused }
+    let refusal = at_verdict _ told (worked (goal.at.returns-in_default c).After-bootstrap-quotes) in
+    let says = refused_alone c.unworked.ensures.verdict told c.unworked.ensures.beside (quotes_refused _ refusal) in
+    record { outcome = says.0; beside = says.1; unused = λ e. c.unworked.ensures.unused }

@@ -26,7 +26,8 @@ year_over-x-requires c = (c.requires.0.sound, lit≤ tt, ten_quoted c.requires.0
 
 pub returns-then-not-within_ends : goal.returns-then-not-within_ends
 returns-then-not-within_ends c =
-    let e = sym (tested (goal.at.returns-then-not-within_ends c).After-within_ends) ∙ c.if-not-within_ends.true in record { outcome = sym (own_refused c.requires.0 c.requires.1 e); sizes = c.no_forwards.ensures }
+    let e = sym (tested (goal.at.returns-then-not-within_ends c).After-within_ends) ∙ c.if-not-within_ends.true in
+    record { outcome = sym (own_refused c.requires.0 c.requires.1 e); sizes = c.no_forwards.ensures }
 
 pub one_forward-requires : goal.one_forward-requires
 one_forward-requires c =
@@ -36,4 +37,5 @@ one_forward-requires c =
 pub returns : goal.returns
 returns c =
     let is = c.one_forward.ensures.0 ∙ ap (λ (p : Pair). gap_forward p ∷ []) c.year_over-x.ensures in
-    let own = own_passed c.requires.0 c.requires.1 (passed (goal.at.returns c).Else-not-within_ends) in record { outcome = one_stretch c.requires.0 (ap volume_count c.requires.1) own c.one_forward.result is; sizes = c.one_forward.ensures.1 }
+    let own = own_passed c.requires.0 c.requires.1 (passed (goal.at.returns c).Else-not-within_ends) in
+    record { outcome = one_stretch c.requires.0 (ap volume_count c.requires.1) own c.one_forward.result is; sizes = c.one_forward.ensures.1 }

@@ -36,7 +36,8 @@ returns-then-n-eq0-clause-pass c =
 pub returns-then-n-eq0-clause-waits : goal.returns-then-n-eq0-clause-waits
 returns-then-n-eq0-clause-waits c =
     let made = makes (as_book c.loop-text.after) c.args.held.now c.loop-text.taken c.make_at_desk-made.ensures in
-    let all = ends_here c.loop-text.invariant made (omega (arith, c.loop-text.invariant.same_length)) c.loop-text.after refl c.not_known.ensures c.if-n-eq0.true in
+    let l = c.loop-text in
+    let all = ends_here l.invariant made (omega (arith, l.invariant.same_length)) l.after refl c.not_known.ensures c.if-n-eq0.true in
     waits (length c.args.text.now) (as_book c.args.book) c.args.held.now all (c.type_inv.held 1).fits (c.type_inv.held 2).fits
 
 pub put_reply-written-requires : goal.put_reply-written-requires

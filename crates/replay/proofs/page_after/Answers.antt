@@ -15,4 +15,8 @@ returns c =
     let cs = decode a.calls.now in
     let lent = a.out.now in
     let w = as_which a.which in
-    let paged = c.page.ensures ∙ ap (λ (b : Book). page b w lent) c.replay-book.ensures in record { paged = paged; told = subst⁻¹ (λ (p : Paged). PageTells a.age_limit (count cs) w lent p) paged (demand_3 a.age_limit cs (page_into w lent)) }
+    let paged = c.page.ensures ∙ ap (λ (b : Book). page b w lent) c.replay-book.ensures in
+    record {
+      paged = paged;
+      told = subst⁻¹ (λ (p : Paged). PageTells a.age_limit (count cs) w lent p) paged (demand_3 a.age_limit cs (page_into w lent));
+    }

@@ -18,4 +18,5 @@ returns c =
     let cs = decode a.calls.now in
     let fs = paired a.numbers.now in
     let valued = subst (λ (b : Book). ValuedAs b fs c.value_of_numbers.result) c.replay.ensures c.value_of_numbers.ensures in
-    let told = demand_3 a.age_limit cs (value_of fs) in record { valued = valued; told = subst⁻¹ (λ (o : Outcome Value). ValueTells a.age_limit (count cs) fs o) valued.0 told }
+    let told = demand_3 a.age_limit cs (value_of fs) in
+    record { valued = valued; told = subst⁻¹ (λ (o : Outcome Value). ValueTells a.age_limit (count cs) fs o) valued.0 told }
