@@ -185,10 +185,11 @@ fn read_end(held: usize, size: usize) -> usize
     size
 }
 
-// One read behind the bytes that are held.
+// One read behind the bytes that are held. These stay, also where the read fails.
 fn read_more<R: Read>(input: &mut R, desk: Desk, block: &mut [u8]) -> io::Result<Desk>
     requires { desk.held < length block.old }
-    ensures { IfOk result (λ r. Reads desk block.old block.new r) }
+    ensures read { IfOk result (λ r. Reads desk block.old block.new r) }
+    ensures held { take desk.held block.new ≡ take desk.held block.old }
 {
     let held = desk.held;
     let end = read_end(held, block.len());

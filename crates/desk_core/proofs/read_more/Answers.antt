@@ -8,8 +8,8 @@ use Rattle.desk_core.proofs.read_more.Goals as goal
 abbrev with_held : Desk → List ℕ → Desk
 with_held d l = record { book = d.book; offset = d.offset; held = l }
 
-pub returns : goal.returns
-returns g c =
+pub returns-clause-read : goal.returns-clause-read
+returns-clause-read g c =
     record {
       more = omega arith;
       within = omega (arith, c.read_end-end.ensures);
