@@ -1,2 +1,4 @@
 pub mod Figures
+pub mod ZeroYears
 pub mod ZeroSheets
+pub mod ZeroSheetsAdjusted
