@@ -1,5 +1,5 @@
 -- One end of a year, t times through the step: what is left of the steps, and how far they can take it.
-use mathlib.Core.Path.{◌≡◌, refl, ap}
+use mathlib.Core.Path.{◌≡◌, refl}
 use mathlib.Core.Bool.{Bool, true, false}
 use Prim.Native.Nat.{ℕ, zero, suc, ◌+◌, ◌-◌, ◌*◌, ◌/◌, ◌≤◌, ◌<◌}
 use native.Mathlib.Nat.{mul-le-mul_left, mul_comm, div-le_of_le-mul}
@@ -47,9 +47,6 @@ pub record Stepped (up : Bool) (f : ℤ) (factor t x counter : ℕ) : Type 0 whe
   pub turns : counter ≤ t
   pub left : steps_by up f (t - counter) x ≡ steps_by up f t factor
   pub most : x ≤ highest_factor + 13_000_000 * counter
-
-pub no_step : (up : Bool) (f : ℤ) (factor t : ℕ) → factor ≤ highest_factor → Stepped up f factor t factor 0
-no_step up f factor t h = record { turns = omega arith; left = ap (λ (k : ℕ). steps_by up f k factor) (omega arith); most = omega arith }
 
 module _ {up : Bool} {f : ℤ} {factor t x counter : ℕ} (d : Stepped up f factor t x counter) (short : t ≤ 20) where
   pub steppable : counter < t → x ≤ step_range

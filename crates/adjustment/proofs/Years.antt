@@ -1,5 +1,6 @@
 -- The loop over the years to 20: what is left, put after the years that are written, is the whole adjustment.
 use mathlib.Core.Path.{◌≡◌, refl, sym, ap, ◌∙◌}
+use mathlib.Core.Logic.{◌≢◌}
 use mathlib.Core.List.{List, [], ◌∷◌, ◌++◌, append-nil}
 use Prim.Native.Nat.{ℕ, suc, ◌+◌, ◌≤◌, ◌<◌}
 use native.Mathlib.Numerals.{add-one}
@@ -13,17 +14,13 @@ use Rattle.method.specs.Units.{Pair, pair, signed_pair}
 use Rattle.method.specs.Grounds.{high_above_limit, Outcome, refused, done}
 use Rattle.method.specs.Quotes.{highest_factor}
 use Rattle.method.specs.Extrapolation.{billionths, steps, adjusted_years}
-use Rattle.method.proofs.ExtrapolationLaws.{after, after_none, after-after, adjusted_worked, adjusted_refused, none_adjusted, steps_ordered}
+use Rattle.method.proofs.ExtrapolationLaws.{after, after-after, adjusted_worked, adjusted_refused, none_adjusted, steps_ordered}
 use Rattle.method.proofs.Zips.{zip_set, zip_length, zip_at}
-use Rattle.grounds.specs.Verdicts.{as_ground}
-use Rattle.grounds.specs.declared.Ground.{Ground}
-use Rattle.grounds.specs.declared.Verdict.TheVariants.{Passed, Refused}
-use Rattle.extrapolation.specs.declared.Years.{Years}
+use Rattle.std.specs.declared.result.Result.TheVariants.{Ok, Err}
+use Rattle.grounds.specs.declared.Ground.TheVariants.{HighAboveLimit}
+use Rattle.extrapolation.specs.Extrapolated.{Years}
 use Rattle.extrapolation.specs.Extrapolated.{as_years, factor_at, InRange}
 use Rattle.adjustment.specs.Adjusting.{Adjusts}
-
-not_both : {g : Ground} → Passed ≡ Refused g → ⊥
-not_both e = let z : ◌≡◌ {A = ℕ} 0 1 = cc in omega arith
 
 module _ (a : ℤ) (came : Years) where
   abbrev first : List Pair
@@ -44,19 +41,8 @@ module _ (a : ℤ) (came : Years) where
     pub lows_length : length y.lows ≡ 150
     pub highs_length : length y.highs ≡ 150
     pub in_range : (j : ℕ) → j < i → InRange (factor_at y j)
+    pub ahead : (j : ℕ) → i ≤ j → factor_at y j ≡ factor_at came j
     pub whole : left 0 ≡ after (take i (as_years y)) (left i)
-
-  pub at_start : length came.lows ≡ 150 → length came.highs ≡ 150 → Reached came 0
-  at_start came_lows came_highs =
-      record {
-        turns = omega arith;
-        came_lows = came_lows;
-        came_highs = came_highs;
-        lows_length = came_lows;
-        highs_length = came_highs;
-        in_range = λ j h. absurd (omega arith);
-        whole = sym (after_none (left 0));
-      }
 
   pub next_ordered : (i : ℕ) → InRange (factor_at came i) → (next i).low ≤ (next i).high
   next_ordered i r = steps_ordered (signed_pair (billionths a) (billionths a)) (i + 1) (factor_at came i) (≤ℤ_refl (billionths a)) r.ordered
@@ -70,18 +56,18 @@ module _ (a : ℤ) (came : Years) where
         let same : length came.lows ≡ length came.highs = omega (arith, d.came_lows, d.came_highs) in
         rw (drop-cons first i (pair 0 0) (rw first-length h), get_or-take, zip_at pair came.lows came.highs i 0 0 same)
 
-    pub at_refusal : i < 20 → highest_factor < (next i).high → adjusted_years a 1 first ≡ refused (high_above_limit (i + 1))
+    pub at_refusal : i < 20 → highest_factor < (next i).high → Adjusts a came (Err (HighAboveLimit (i + 1)))
     at_refusal h m =
         let here : left i ≡ refused (high_above_limit (i + 1)) = rw (cut h) (adjusted_refused a (factor_at came i) (drop (suc i) first) (i + 1) m) in
-        d.whole ∙ ap (after (take i (as_years y))) here
+        record { outcome = sym (d.whole ∙ ap (after (take i (as_years y))) here); in_range = tt }
 
-    pub at_end_lem : 20 ≤ i → Adjusts a came (record { verdict = Passed; years = y })
+    pub at_end_lem : 20 ≤ i → Adjusts a came (Ok y)
     at_end_lem h =
         let n : i ≡ 20 = omega arith in
         let gone : drop 20 first ≡ [] = drop_of_length-le first {i = 20} (rw first-length (omega arith)) in
         record {
           outcome = sym (rw (n, gone, none_adjusted a 21) at d.whole ∙ ap done (append-nil (take 20 (as_years y))));
-          in_range = λ e j k. d.in_range j (omega arith);
+          in_range = λ j k. d.in_range j (omega arith);
         }
 
     -- the year is worked, and written
@@ -97,8 +83,8 @@ module _ (a : ℤ) (came : Years) where
           rw (get_or-set_same y.lows i q.low 0 (omega (arith, d.lows_length)))
           (rw (get_or-set_same y.highs i q.high 0 (omega (arith, d.highs_length))) refl)
 
-      elsewhere : (j : ℕ) → j < i → factor_at later j ≡ factor_at y j
-      elsewhere j k = rw (get_or-set_other y.lows i j q.low 0 (λ e. omega arith), get_or-set_other y.highs i j q.high 0 (λ e. omega arith))
+      elsewhere : (j : ℕ) → j ≢ i → factor_at later j ≡ factor_at y j
+      elsewhere j k = rw (get_or-set_other y.lows i j q.low 0 k, get_or-set_other y.highs i j q.high 0 k)
 
       years_length : length (as_years y) ≡ 150
       years_length = zip_length pair y.lows y.highs (omega (arith, d.lows_length, d.highs_length)) ∙ d.lows_length
@@ -120,15 +106,11 @@ module _ (a : ℤ) (came : Years) where
             lows_length = length-set y.lows i q.low ∙ d.lows_length;
             highs_length = length-set y.highs i q.high ∙ d.highs_length;
             in_range = λ j k.
-                below_more (λ (n : ℕ). InRange (factor_at later n)) i (λ n b. rw (elsewhere n b) (d.in_range n b)) (rw at_written ranged) j k;
+                below_more (λ (n : ℕ). InRange (factor_at later n)) i (λ n b. rw (elsewhere n (λ e. omega arith)) (d.in_range n b)) (rw at_written ranged) j k;
+            ahead = λ j k. elsewhere j (λ e. omega arith) ∙ d.ahead j (omega arith);
             whole =
                 d.whole
                 ∙ ap (after (take i (as_years y))) here
                 ∙ after-after (take i (as_years y)) (next i ∷ []) (left (i + 1))
                 ∙ rw (one_more, e);
           }
-
--- a refusal hands the years back as they came
-pub refused_adjusts : (a : ℤ) (came : Years) (g : Ground) → adjusted_years a 1 (take 20 (as_years came)) ≡ refused (as_ground g) →
-    Adjusts a came (record { verdict = Refused g; years = came })
-refused_adjusts a came g e = record { outcome = sym e; in_range = λ p. absurd (not_both (sym p)) }

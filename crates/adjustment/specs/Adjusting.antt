@@ -1,10 +1,11 @@
 -- What the contracts cite beside the definitions of the crate method.
-use Rattle.std.specs.Prelude.{◌≡◌, Bool, ℕ, zero, suc, ◌≤◌, ◌<◌, ℤ, nat_abs, take}
+use Rattle.std.specs.Prelude.{◌≡◌, Bool, ℕ, zero, suc, ◌≤◌, ◌<◌, ℤ, nat_abs, take, Result, IfOk}
+use mathlib.Core.List.{List}
+use Rattle.method.specs.Units.{Pair}
 use Rattle.method.specs.Extrapolation.{adjusted_years}
-use Rattle.grounds.specs.Verdicts.{as_outcome}
-use Rattle.grounds.specs.declared.Verdict.TheVariants.{Passed}
-use Rattle.extrapolation.specs.declared.Years.{Years}
-use Rattle.extrapolation.specs.declared.Extended.{Extended}
+use Rattle.grounds.specs.declared.Ground.{Ground}
+use Rattle.grounds.specs.Answers.{outcome_of}
+use Rattle.extrapolation.specs.Extrapolated.{Years}
 use Rattle.extrapolation.specs.Extrapolated.{as_years, factor_at, step_by, InRange}
 
 -- one end, t times through the step
@@ -24,7 +25,10 @@ most_steps = 260_000_000
 abbrev pub FactorsTo : Years → Type 0
 FactorsTo y = (i : ℕ) → i < 20 → InRange (factor_at y i)
 
+abbrev pub first_years : Years → List Pair
+first_years y = take 20 (as_years y)
+
 -- the definition's years, and each a factor that passes ground 8 again
-pub record Adjusts (a : ℤ) (years : Years) (r : Extended) : Type 0 where
-  pub outcome : as_outcome r.verdict (take 20 (as_years r.years)) ≡ adjusted_years a 1 (take 20 (as_years years))
-  pub in_range : r.verdict ≡ Passed → FactorsTo r.years
+pub record Adjusts (a : ℤ) (years : Years) (r : Result Years Ground) : Type 0 where
+  pub outcome : outcome_of first_years r ≡ adjusted_years a 1 (first_years years)
+  pub in_range : IfOk r FactorsTo

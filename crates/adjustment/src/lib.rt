@@ -9,11 +9,8 @@ ghost use Rattle.method.specs.Extrapolation.{billionths, first_raised};
 ghost use Rattle.extrapolation.specs.Extrapolated.{as_forwards, GrowthFor, ForwardSizes};
 ghost use Rattle.adjustment.specs.Adjusting.{steps_by, Small, most_steps, FactorsTo, Adjusts};
 
-use extrapolation::{Extended, Forwards, Years};
-use grounds::{Ground, Verdict};
-
-// Ground 8 refuses a high above it.
-const HIGHEST_FACTOR: u64 = 2_000_000_000;
+use extrapolation::{Forwards, HIGHEST_FACTOR, Years};
+use grounds::Ground;
 
 // The years that are adjusted; all later ones are extrapolated.
 const SMOOTHING_YEAR: usize = 20;
@@ -27,19 +24,14 @@ fn billionths(a: i64) -> i64
 }
 
 // g1 gains as much at both ends.
-pub fn raise_first(g: Forwards, a: i64) -> Forwards
+pub fn raise_first(mut g: Forwards, a: i64) -> Forwards
     requires { ForwardSizes logarithm_bound g × (nat_abs a ≤ 500) }
     ensures { (as_forwards result ≡ first_raised a (as_forwards g)) × ForwardSizes forward_bound result }
 {
     let more = billionths(a);
-    let mut lows = g.lows;
-    let mut highs = g.highs;
-    lows[0] = lows[0] + more;
-    highs[0] = highs[0] + more;
-    Forwards {
-        lows: lows,
-        highs: highs,
-    }
+    g[0].low += more;
+    g[0].high += more;
+    g
 }
 
 // One end of a year, t times through the step.
@@ -55,32 +47,21 @@ fn steps(f: i64, growth: u64, factor: u64, t: usize, up: bool) -> u64
 }
 
 // The years to 20, or the first that ground 8 refuses; those after them are as they came.
-pub fn adjusted_years(a: i64, years: Years) -> Extended
+pub fn adjusted_years(a: i64, mut years: Years) -> Result<Years, Ground>
     requires { (nat_abs a ≤ 500) × FactorsTo years }
     ensures { Adjusts a years result }
 {
     let f = billionths(a);
     let down = extrapolation::growth_by(f, false);
     let up = extrapolation::growth_by(f, true);
-    let mut lows = years.lows;
-    let mut highs = years.highs;
     for i in 0..SMOOTHING_YEAR {
         let low = steps(f, down, years.lows[i] as u64, i + 1, false);
         let high = steps(f, up, years.highs[i] as u64, i + 1, true);
         if HIGHEST_FACTOR < high {
-            return Extended {
-                verdict: Verdict::Refused(Ground::HighAboveLimit(i as u64 + 1)),
-                years: years,
-            };
+            return Err(Ground::HighAboveLimit(i as u64 + 1));
         }
-        lows[i] = low as u32;
-        highs[i] = high as u32;
+        years.lows[i] = low as u32;
+        years.highs[i] = high as u32;
     }
-    Extended {
-        verdict: Verdict::Passed,
-        years: Years {
-            lows: lows,
-            highs: highs,
-        },
-    }
+    Ok(years)
 }

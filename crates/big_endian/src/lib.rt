@@ -8,7 +8,7 @@ ghost use Rattle.method.specs.Bytes.{big_endian, in_bytes, twos_complement32, pu
 pub fn wide(byte: u8) -> u64
     ensures { (result ≡ byte) × (result < 256) }
 {
-    byte as u64
+    u64::from(byte)
 }
 
 // The number of up to seven bytes.
@@ -16,11 +16,9 @@ pub fn number(bytes: &[u8]) -> u64
     requires { length bytes.now ≤ 7 }
     ensures { (result ≡ big_endian 0 bytes.now) × (result < 256 ^ length bytes.now) }
 {
-    let mut n: u64 = 0;
-    let mut i: usize = 0;
-    while i < bytes.len() {
-        n = n * 256 + wide(bytes[i]);
-        i += 1;
+    let mut n = 0;
+    for byte in bytes {
+        n = n * 256 + wide(*byte);
     }
     n
 }
@@ -28,7 +26,7 @@ pub fn number(bytes: &[u8]) -> u64
 pub fn two_bytes(high: u8, low: u8) -> u64
     ensures { (result ≡ high * 256 + low) × (result < 65_536) }
 {
-    high as u64 * 256 + low as u64
+    u64::from(u16::from_be_bytes([high, low]))
 }
 
 // The lowest byte of a number.
@@ -44,11 +42,9 @@ pub fn put(n: u64, width: usize, at: usize, out: &mut [u8])
     ensures { out.new ≡ put_at at (in_bytes width n) out.old }
 {
     let mut rest = n;
-    let mut left = width;
-    while 0 < left {
-        left = left - 1;
+    for left in (0..width).rev() {
         out[at + left] = byte(rest);
-        rest = rest / 256;
+        rest /= 256;
     }
 }
 
@@ -57,7 +53,7 @@ pub fn twos_complement(z: i64) -> u64
     ensures { result ≡ twos_complement32 z }
 {
     if z < 0 {
-        4_294_967_295 - ((0 - (z + 1)) as u64) % 4_294_967_296
+        4_294_967_295 - !z as u64 % 4_294_967_296
     } else {
         z as u64
     }

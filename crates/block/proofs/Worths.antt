@@ -2,7 +2,7 @@
 -- added over the years, are the list's own sum of cents × factor.
 use mathlib.Core.Bool.{Bool, true, false}
 use mathlib.Core.List.{List, [], ◌∷◌}
-use mathlib.Core.Path.{◌≡◌, refl, sym, ap, subst, subst⁻¹, ◌∙◌}
+use mathlib.Core.Path.{◌≡◌, refl, sym, ap, subst, ◌∙◌}
 use Prim.Native.Nat.{ℕ, zero, suc, ◌+◌, ◌*◌, ◌-◌, ◌≤◌, ◌<◌}
 use native.Mathlib.Omega.{arith}
 use lib.Dec.{eqb}
@@ -10,29 +10,34 @@ use lib.ListN.{length, get_or, set, replicate, length-set, length-replicate}
 use lib.Seq.{get_or-set_same, get_or-set_other}
 use borrow.Author.Tests.{eqb-true, eqb-false}
 use Rattle.fraction.specs.Rounding.{U, round_ℕ}
-use Rattle.method.specs.Units.{Pair, pair}
+use Rattle.method.specs.Units.{pair}
 use Rattle.method.specs.Grounds.{done}
-use Rattle.method.proofs.Outcome.{done_injective, bind_done, bind_assoc, split}
+use Rattle.method.proofs.Outcome.{done_injective, bind_done, split}
 use Rattle.valuation.specs.Block as valuation
 use Rattle.valuation.specs.Block.{flows_checked, block_checked, block_sum, worth_of, value_by}
 use Rattle.valuation.proofs.Checks.{first-passed, count-passed}
-use Rattle.grounds.specs.declared.Ground.{Ground}
-use Rattle.grounds.specs.declared.Verdict.TheVariants.{Passed, Refused}
-use Rattle.grounds.specs.Verdicts.{as_outcome}
-use Rattle.grounds.proofs.Chain.{at_verdict, handed_on}
-use Rattle.block.specs.declared.Block.{Block}
-use Rattle.block.specs.Entries.{Totals}
-use Rattle.block.specs.Views.{totals_from, block_of, as_block, factor_in, weighed}
-use Rattle.block.proofs.Enters.{set_le, zeros_le}
+use Rattle.block.specs.Views.{Totals, totals_from, block_of, factor_in, weighed}
 
 -- ---- the totals: how many, and how large
+
+set_le : (l : List ℕ) (i v k m : ℕ) → get_or l k 0 ≤ m → v ≤ m → get_or (set l i v) k 0 ≤ m
+set_le [] i v k m h g = h
+set_le (x ∷ l) zero v zero m h g = g
+set_le (x ∷ l) zero v (suc k) m h g = h
+set_le (x ∷ l) (suc i) v zero m h g = h
+set_le (x ∷ l) (suc i) v (suc k) m h g = set_le l i v k m h g
+
+pub zeros_le : (n k : ℕ) → get_or (replicate n 0) k 0 ≤ 0
+zeros_le zero k = omega arith
+zeros_le (suc n) zero = omega arith
+zeros_le (suc n) (suc k) = zeros_le n k
 
 totals_length : (ts : List ℕ) (fs : List valuation.Flow) → length (totals_from ts fs) ≡ length ts
 unfolding totals_from
 totals_length ts [] = refl
 totals_length ts (f ∷ fs) = totals_length (set ts _ _) fs ∙ length-set ts _ _
 
-totals_le : (ts : List ℕ) (fs : List valuation.Flow) (entry n : ℕ) → flows_checked entry fs ≡ done tt →
+pub totals_le : (ts : List ℕ) (fs : List valuation.Flow) (entry n : ℕ) → flows_checked entry fs ≡ done tt →
     ((k : ℕ) → get_or ts k 0 ≤ n * 1_000_000_000) → (k : ℕ) → get_or (totals_from ts fs) k 0 ≤ (n + length fs) * 1_000_000_000
 unfolding totals_from
 totals_le ts [] entry n e h k = omega (arith, h k)
@@ -44,7 +49,7 @@ totals_le ts (f ∷ fs) entry n e h k = omega (arith, totals_le next fs (entry +
     next_le : (j : ℕ) → get_or next j 0 ≤ suc n * 1_000_000_000
     next_le j = set_le ts (f.year - 1) _ j (suc n * 1_000_000_000) (omega (arith, h j)) (omega (arith, h (f.year - 1), (first-passed entry f fs e).0.1))
 
-totals_held : (fs : List valuation.Flow) → block_checked fs ≡ done tt → Totals (totals_from (replicate 150 0) fs)
+pub totals_held : (fs : List valuation.Flow) → block_checked fs ≡ done tt → Totals (totals_from (replicate 150 0) fs)
 totals_held fs e =
     let (counted, passed) = count-passed fs e in (
       totals_length (replicate 150 0) fs ∙ length-replicate {A = ℕ} 150 0,
@@ -114,33 +119,22 @@ module _ (factors : List ℕ) where
       let zeros : List ℕ = replicate 150 0 in
       omega (arith, totals_weighed zeros fs 1 (length-replicate {A = ℕ} 150 0) (count-passed fs e).1, weighed_zeros 150 150 factors)
 
--- ---- the value, beside a list's block
+-- ---- the value, of the list whose block it is
 
-module _ (b : Block) (fs : List valuation.Flow) (of-list : as_block b ≡ block_of fs) where
-  module _ (passes : b.verdict ≡ Passed) where
-    passed : (block_checked fs ≡ done tt) × (b.totals ≡ totals_from (replicate 150 0) fs)
-    unfolding block_of
-    passed =
-        let (x, checked, made) = bind_done (block_checked fs) _ (at_verdict b.totals passes of-list) in
-        (checked, sym (done_injective made))
+module _ (fs : List valuation.Flow) {totals : List ℕ} (of-list : block_of fs ≡ done totals) where
+  passed : (block_checked fs ≡ done tt) × (totals ≡ totals_from (replicate 150 0) fs)
+  unfolding block_of
+  passed =
+      let (x, checked, made) = bind_done (block_checked fs) _ of-list in
+      (checked, sym (done_injective made))
 
-    pub block_held : Totals b.totals
-    block_held = subst⁻¹ Totals passed.1 (totals_held fs passed.0)
+  worth_is : (up : Bool) (factors : List ℕ) → round_ℕ up (weighed totals factors 150) U ≡ worth_of up (factor_in factors) fs
+  worth_is up factors =
+      ap (λ (ts : List ℕ). round_ℕ up (weighed ts factors 150) U) passed.1
+      ∙ ap (λ (sum : ℕ). round_ℕ up sum U) (block_weighed factors fs passed.0)
 
-    worth_is : (up : Bool) (factors : List ℕ) → round_ℕ up (weighed b.totals factors 150) U ≡ worth_of up (factor_in factors) fs
-    worth_is up factors =
-        ap (λ (ts : List ℕ). round_ℕ up (weighed ts factors 150) U) passed.1
-        ∙ ap (λ (sum : ℕ). round_ℕ up sum U) (block_weighed factors fs passed.0)
-
-    pub value-passed : (lows highs : List ℕ) {low high : ℕ} →
-        low ≡ round_ℕ false (weighed b.totals lows 150) U → high ≡ round_ℕ true (weighed b.totals highs 150) U →
-        done (pair low high) ≡ value_by (factor_in lows) (factor_in highs) fs
-    unfolding value_by
-    value-passed lows highs l h = rw (passed.0, l ∙ worth_is false lows, h ∙ worth_is true highs)
-
-  -- a refusal is handed on, with its ground
-  pub value_refused : {g : Ground} → b.verdict ≡ Refused g → (low high : ℕ → ℕ) → as_outcome b.verdict (pair 0 0) ≡ value_by low high fs
-  unfolding block_of value_by
-  value_refused h low high =
-      let worth : Pair = pair (worth_of false low fs) (worth_of true high fs) in
-      (handed_on b.totals (pair 0 0) (λ _. done worth) h of-list).0 ∙ bind_assoc (block_checked fs) _ _
+  pub value_is : (lows highs : List ℕ) {low high : ℕ} →
+      low ≡ round_ℕ false (weighed totals lows 150) U → high ≡ round_ℕ true (weighed totals highs 150) U →
+      value_by (factor_in lows) (factor_in highs) fs ≡ done (pair low high)
+  unfolding value_by
+  value_is lows highs l h = rw (passed.0, l ∙ worth_is false lows, h ∙ worth_is true highs)

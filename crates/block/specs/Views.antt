@@ -1,13 +1,10 @@
 -- The block's code, as the valuation's: flows, and the totals of a list or why it is refused.
-use Rattle.std.specs.Prelude.{cond, List, [], ◌∷◌, map, ◌≡◌, ℕ, zero, suc, ◌+◌, ◌*◌, ◌-◌, ◌%◌, eqb, length, get_or, set, replicate}
-use Rattle.method.specs.Units.{Pair, pair}
+use Rattle.std.specs.Prelude.{cond, List, [], ◌∷◌, map, ◌≡◌, ℕ, zero, suc, ◌+◌, ◌*◌, ◌-◌, ◌%◌, ◌<◌, ◌≤◌, eqb, length, get_or, set, replicate}
 use Rattle.method.specs.Grounds.{Outcome, done, ◌>>=◌}
 use Rattle.valuation.specs.Block as valuation
 use Rattle.valuation.specs.Block.{block_checked, value_by}
-use Rattle.grounds.specs.Verdicts.{as_outcome}
+use Rattle.rounding.specs.Pairs.{Pair, as_pair}
 use Rattle.block.specs.declared.Flow.{Flow}
-use Rattle.block.specs.declared.Block.{Block}
-use Rattle.block.specs.declared.Worth.{Worth}
 
 abbrev pub as_flow : Flow → valuation.Flow
 as_flow f = record { year = f.year; cents = f.cents }
@@ -37,12 +34,22 @@ block_of fs = do
   _ ← block_checked fs
   done (totals_from (replicate 150 0) fs)
 
-abbrev pub as_block : Block → Outcome (List ℕ)
-as_block b = as_outcome b.verdict b.totals
+-- no total is above n entries of the largest size
+abbrev pub Held : ℕ → List ℕ → Type 0
+Held n ts = (k : ℕ) → get_or ts k 0 ≤ n * 1_000_000_000
 
--- no other can be built
-abbrev pub OfList : Block → Type 0
-OfList b = (fs : List valuation.Flow) × (as_block b ≡ block_of fs)
+-- of a whole list
+abbrev pub Totals : List ℕ → Type 0
+Totals ts = (length ts ≡ 150) × Held 1_000 ts
+
+-- what stands past a list's end: nothing reads there
+abbrev pub no_flow : valuation.Flow
+no_flow = record { year = 0; cents = 0 }
+
+-- what is answered at each place of so many is the list's entry there
+pub record Lists (answers : ℕ → Flow → Type 0) (count : ℕ) (fs : List valuation.Flow) : Type 0 where
+  pub long : length fs ≡ count
+  pub each : (i : ℕ) (f : Flow) → i < count → answers i f → as_flow f ≡ get_or fs i no_flow
 
 -- ---- the factor of a year, from 1; totals × factors of the first i years, added
 
@@ -53,9 +60,6 @@ unfoldable pub weighed : List ℕ → List ℕ → ℕ → ℕ
 weighed ts fs zero = 0
 weighed ts fs (suc i) = weighed ts fs i + get_or ts i 0 * get_or fs i 0
 
-abbrev pub as_worth : Worth → Outcome Pair
-as_worth w = as_outcome w.verdict (pair w.low w.high)
-
 -- whatever the list is of which it is the block
-abbrev pub Values : Block → List ℕ → List ℕ → Worth → Type 0
-Values b lows highs w = (fs : List valuation.Flow) → as_block b ≡ block_of fs → as_worth w ≡ value_by (factor_in lows) (factor_in highs) fs
+abbrev pub Values : List ℕ → List ℕ → List ℕ → Pair → Type 0
+Values totals lows highs p = (fs : List valuation.Flow) → block_of fs ≡ done totals → value_by (factor_in lows) (factor_in highs) fs ≡ done (as_pair p)

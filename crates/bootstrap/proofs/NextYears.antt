@@ -1,28 +1,23 @@
 -- The next years, one by one: a year's verdict, and what is then left to be worked.
-use mathlib.Core.Path.{◌≡◌, refl, ap, ◌∙◌}
+use mathlib.Core.Path.{◌≡◌, refl, ap, subst⁻¹, ◌∙◌}
 use mathlib.Core.Bool.{Bool, true, false}
 use mathlib.Core.List.{List, [], ◌∷◌, ◌++◌}
-use Prim.Native.Nat.{ℕ, zero, suc, ◌-◌, ◌*◌, ◌/◌, ◌≤◌, ◌<◌}
+use Prim.Native.Nat.{ℕ, zero, suc, ◌+◌, ◌-◌, ◌*◌, ◌/◌, ◌≤◌, ◌<◌}
 use native.Mathlib.Nat.{mul-le-mul}
 use native.Mathlib.Omega.{arith}
 use lib.Dec.{ltb, le→leb}
 use lib.IntN.{ℤ, pos, nat_abs}
 use lib.Signed.{le_z_yes, ◌≤ℤ◌}
-use borrow.Author.Tests.{lt-ltb}
+use borrow.Author.Tests.{ltb-true, ltb-false, lt-ltb, le-ltb}
 use Rattle.fraction.specs.Rounding.{U, ceil_div}
-use Rattle.method.specs.Units.{Pair, pair}
-use Rattle.method.specs.Grounds.{Outcome, refused, done, ◌>>=◌}
-use Rattle.method.specs.Quotes.{Bootstrap, annuity, par_low, par_high, next_year, quoted_year}
+use Rattle.method.specs.Units.{Pair, SignedPair, pair}
+use Rattle.method.specs.Grounds.{Ground, Outcome, refused, done, ◌>>=◌}
+use Rattle.method.specs.Quotes.{annuity, par_low, par_high, next_year, quoted_year}
 use Rattle.method.proofs.TrialLaws.{down_up}
-use Rattle.method.proofs.QuotesLaws.{Joined, inside_none, inside_more, quoted_next, next_done}
-use Rattle.method.proofs.Outcome.{bind_assoc}
+use Rattle.method.proofs.QuotesLaws.{inside_none, inside_more, quoted_next}
+use Rattle.method.proofs.Outcome.{bind_assoc, split}
 use Rattle.method.proofs.QuotesBounds.{par_ordered}
-use Rattle.grounds.specs.declared.Verdict.{Verdict}
-use Rattle.grounds.specs.declared.Ground.{Ground}
-use Rattle.grounds.specs.declared.Verdict.TheVariants.{Passed, Refused}
-use Rattle.grounds.specs.Verdicts.{as_outcome}
-use Rattle.grounds.proofs.Chain.{at_verdict}
-use Rattle.bootstrap.specs.Liquids.{lifted, next_factor, next_years}
+use Rattle.bootstrap.specs.Years.{next_factor, next_years}
 
 -- ---- the definition, a year at a time
 
@@ -55,31 +50,28 @@ pub next_ordered : (inside : Bool) (t x : Pair) (r : ℤ) (a : Pair) → t.low �
 next_ordered true t x r a ht hx ha = le_z_yes (le→leb _ _ (down_up.holds _ _ (mul-le-mul ht hx)))
 next_ordered false t x r a ht hx ha = par_ordered r a ha
 
+pub as_ordered : {n m : SignedPair} → n ≡ m → m.low ≤ℤ m.high → n.low ≤ℤ n.high
+as_ordered e h = subst⁻¹ (λ (p : SignedPair). p.low ≤ℤ p.high) e h
+
 -- ---- a year, judged
 
--- the next of `left` years from t at x, with the verdict v
-pub record YearJudged (t x : Pair) (r : ℤ) (left : ℕ) (b : Bootstrap) (low high : ℤ) (v : Verdict) : Type 0 where
-  pub some : 0 < left
-  pub low_is : low ≡ (next_factor (ltb 1 left) t x r (annuity b.factors)).low
-  pub high_is : high ≡ (next_factor (ltb 1 left) t x r (annuity b.factors)).high
-  pub verdict : as_outcome v (b.factors ++ pair (nat_abs low) (nat_abs high) ∷ []) ≡ next_year b.factors low high
+-- the last of k years, or one inside, by how many are left
+pub year_inside : (year k : ℕ) → year ≤ k → ltb year k ≡ ltb 1 (k + 1 - year)
+year_inside year k h =
+    split (ltb year k) (λ e. rw (e, lt-ltb 1 (k + 1 - year) (omega (arith, ltb-true year k e))) refl)
+    (λ e. rw (e, le-ltb 1 (k + 1 - year) (omega (arith, ltb-false year k e))) refl)
 
-module _ {t x : Pair} {r : ℤ} {left : ℕ} {b : Bootstrap} {low high : ℤ} {v : Verdict} (year : YearJudged t x r left b low high v) where
-  abbrev next : Pair
-  next = pair (nat_abs low) (nat_abs high)
+-- the next of `left` years from t at x, whose low and high are n's
+module _ (t x : Pair) (r : ℤ) (left : ℕ) (ps : List Pair) {n : SignedPair} (some : 0 < left) (is : n ≡ next_factor (ltb 1 left) t x r (annuity ps)) where
+  abbrev others : List Pair → Outcome (List Pair)
+  others = next_years (pair (nat_abs n.low) (nat_abs n.high)) x (left - 1) r
 
-  abbrev factors : List Pair
-  factors = b.factors ++ next ∷ []
+  whole : next_years t x left r ps ≡ (next_year ps n.low n.high >>= others)
+  whole = rw is (one_more t x r ps left some)
 
-  whole : next_years t x left r b.factors ≡ (next_year b.factors low high >>= next_years next x (left - 1) r)
-  whole = rw (year.low_is, year.high_is) (one_more t x r b.factors left year.some)
+  pub year_stops : {g : Ground} → refused g ≡ next_year ps n.low n.high → next_years t x left r ps ≡ refused g
+  year_stops e = rw (← e) at whole
 
-  pub year_stops : {g : Ground} (c : Bootstrap) → v ≡ Refused g → as_outcome v c ≡ lifted b (next_years t x left r b.factors)
-  year_stops c p = rw (p, whole, at_verdict factors p year.verdict) refl
-
-  module _ (p : v ≡ Passed) where
-    pub year_goes : lifted b (next_years t x left r b.factors) ≡ lifted b (next_years next x (left - 1) r factors)
-    year_goes = rw (whole, at_verdict factors p year.verdict) refl
-
-    pub year_joined : Joined b.factors low high factors
-    year_joined = next_done b.factors low high (at_verdict factors p year.verdict)
+  pub year_goes : {p : Pair} → done (ps ++ p ∷ []) ≡ next_year ps n.low n.high → p ≡ pair (nat_abs n.low) (nat_abs n.high) →
+      next_years t x left r ps ≡ next_years p x (left - 1) r (ps ++ p ∷ [])
+  year_goes {p} e k = rw (← e, ← k) at whole

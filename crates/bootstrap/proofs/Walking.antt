@@ -11,7 +11,7 @@ use Rattle.method.proofs.HalvingLaws.{low_x-≤-high_x, high_x-within}
 use Rattle.method.proofs.Outcome.{both_true}
 use Rattle.method.proofs.QuotesLaws.{ends_pass, gap_passes}
 use Rattle.method.proofs.QuotesBounds.{gap_in_order}
-use Rattle.bootstrap.specs.Liquids.{with_gap, lifted, next_years}
+use Rattle.bootstrap.specs.Years.{with_gap, lifted, next_years}
 
 module _ (k : ℕ) (r : ℤ) (b : Bootstrap) (passes : ends_pass k r b.factors ≡ true) (x : Pair)
     (factor : x ≡ pair (low_x (gap_after b.factors k r)) (high_x (gap_after b.factors k r))) where

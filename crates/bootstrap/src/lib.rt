@@ -2,23 +2,31 @@
 // first of grounds 7 to 9.
 #![tactic(auto)]
 
-ghost use Rattle.std.specs.Prelude.{◌≡◌, ◌+◌, ◌≤◌, ◌<◌};
-ghost use Rattle.std.specs.Int.Signed.{mag};
+ghost use Rattle.std.specs.Prelude.{◌≡◌, ◌+◌, ◌≤◌, ◌<◌, ◌++◌, ◌∷◌, [], nat_abs, IfOk};
+ghost use Rattle.std.specs.Int.Signed.{mag, ◌≤ℤ◌};
+ghost use Rattle.method.specs.Units.{pair};
 ghost use Rattle.method.specs.Ranges.{Factor};
 ghost use Rattle.method.specs.Quotes.{last_year, gap_after, gap_years, years_to, bootstrap, upper_end};
 ghost use Rattle.rounding.specs.Pairs.{as_pair, as_signed_pair, PairAtMost};
-ghost use Rattle.grounds.specs.Verdicts.{as_outcome, result_or};
-ghost use Rattle.gap.specs.Gaps.{as_gap, GapFits};
-ghost use Rattle.bootstrap.specs.Liquids.{as_bootstrap, as_step, nothing, with_gap, lifted, Judges, next_factor, next_years, LiquidSound, Reaches, quote};
-ghost use Rattle.bootstrap.specs.Liquids.{as_quotes, QuotesClimb};
+ghost use Rattle.grounds.specs.Answers.{outcome_of};
+ghost use Rattle.gap.specs.Gaps.{as_gap};
+ghost use Rattle.bootstrap.specs.Sound.{Sound};
+ghost use Rattle.bootstrap.specs.Years.{with_factors, with_gap, lifted, Judges, next_factor, next_years, quote};
 
+mod all_quotes;
+
+pub use all_quotes::bootstrap;
 use gap::Gap;
-use grounds::{Ground, Verdict};
-use rounding::{Pair, SignedPair};
+use grounds::Ground;
+use rounding::{Pair, SignedPair, UNIT};
 
-// U of the definitions.
-const UNIT: u64 = 1_000_000_000;
+// 1, at both ends.
+pub const ONE: Pair = Pair {
+    low: UNIT,
+    high: UNIT,
+};
 
+// Ground 8 refuses a high above it.
 const HIGHEST_FACTOR: i64 = 2_000_000_000;
 
 // The first `count` of them, in the order of their maturities.
@@ -29,60 +37,36 @@ pub struct Quotes {
     pub count: usize,
 }
 
-// The first `count` factors, and A, their sum; the low and the high yearly factor of the first `gaps` gaps.
+// The first `count` factors, and A, their sum; the yearly factors of the first `gaps` gaps.
 #[derive(Clone, Copy)]
 pub struct Liquid {
     pub lows: [u32; 50],
     pub highs: [u32; 50],
     pub count: usize,
     pub annuity: Pair,
-    pub xlows: [u64; 7],
-    pub xhighs: [u64; 7],
+    pub xs: [Pair; 7],
     pub gaps: usize,
+    pub ghost sound: { Sound lows highs count annuity xs gaps },
 }
 
-// The part before the first quote where the verdict is a refusal.
-#[derive(Clone, Copy)]
-pub struct Bootstrapped {
-    pub verdict: Verdict,
-    pub liquid: Liquid,
-}
-
-// The part as far as it is worked.
-#[derive(Clone, Copy)]
-struct Step {
-    verdict: Verdict,
-    liquid: Liquid,
-}
-
-// Before the first quote.
-fn fresh() -> Liquid
-    ensures { (as_bootstrap result ≡ nothing) × LiquidSound result × (result.count ≡ 0) × (result.gaps ≡ 0) }
-{
-    Liquid {
-        lows: [0; 50],
-        highs: [0; 50],
-        count: 0,
-        annuity: Pair { low: 0, high: 0 },
-        xlows: [0; 7],
-        xhighs: [0; 7],
-        gaps: 0,
-    }
-}
-
-// ---- the next years
+// ---- a year, judged
 
 // 7 before 8.
-fn judge(year: u64, low: i64, high: i64) -> Verdict
-    ensures { Judges year low high result }
+fn judge(year: u64, low: i64, high: i64) -> Result<Pair, Ground>
+    requires { low ≤ℤ high }
+    ensures year { Judges year low high result }
+    ensures factor { IfOk result (λ p. (as_pair p ≡ pair (nat_abs low) (nat_abs high)) × Factor (as_pair p)) }
 {
     if low < 1 {
-        return Verdict::Refused(Ground::LowBelowOne(year));
+        return Err(Ground::LowBelowOne(year));
     }
     if HIGHEST_FACTOR < high {
-        return Verdict::Refused(Ground::HighAboveLimit(year));
+        return Err(Ground::HighAboveLimit(year));
     }
-    Verdict::Passed
+    Ok(Pair {
+        low: low as u64,
+        high: high as u64,
+    })
 }
 
 // Before it is judged: inside a gap the factor before it by the yearly factor, otherwise by par.
@@ -103,155 +87,118 @@ fn next_factor(inside: bool, p: Pair, x: Pair, rate: i64, annuity: Pair) -> Sign
     }
 }
 
-// The next k years, the last by par, those before it inside a gap; each is judged in turn. They are written in place, because a call
-// for each would copy the arrays.
-fn next_years(w: Liquid, from: Pair, x: Pair, k: u64, rate: i64) -> Step
-    requires { LiquidSound w × (w.count + k ≤ 50) × Factor (as_pair from) × (x.low ≤ x.high) × (x.high ≤ upper_end) × (mag rate ≤ 12_000) }
-    ensures { (as_step result ≡ lifted (as_bootstrap w) (next_years (as_pair from) (as_pair x) k rate (as_bootstrap w).factors)) × LiquidSound result.liquid }
-{
-    let mut liquid = w;
-    let mut p = from;
-    let mut left = k;
-    while 0 < left {
-        let n = liquid.count;
-        let annuity = liquid.annuity;
-        let next = next_factor(1 < left, p, x, rate, annuity);
-        let verdict = judge(n as u64 + 1, next.low, next.high);
-        let Verdict::Passed = verdict else {
-            return Step {
-                verdict: verdict,
-                liquid: liquid,
-            };
-        };
-        p = Pair {
-            low: next.low as u64,
-            high: next.high as u64,
-        };
-        liquid.lows[n] = p.low as u32;
-        liquid.highs[n] = p.high as u32;
-        liquid.count = n + 1;
-        let sum = Pair {
-            low: annuity.low + p.low,
-            high: annuity.high + p.high,
-        };
-        liquid.annuity = sum;
-        left = left - 1;
-    }
-    Step {
-        verdict: Verdict::Passed,
-        liquid: liquid,
-    }
-}
+impl Liquid {
+    ghost use Rattle.bootstrap.specs.Liquids.{as_bootstrap, nothing, Reaches};
 
-// ---- a gap
-
-// The factor before a gap, 1 where there is none.
-fn last_year(w: Liquid) -> Pair
-    requires { LiquidSound w }
-    ensures { as_pair result ≡ last_year (as_bootstrap w).factors }
-{
-    let n = w.count;
-    if n == 0 {
-        return Pair {
-            low: UNIT,
-            high: UNIT,
-        };
+    // Before the first quote.
+    pub(crate) fn fresh() -> Liquid
+        ensures { (as_bootstrap result ≡ nothing) × (result.count ≡ 0) × (result.gaps ≡ 0) }
+    {
+        Liquid {
+            lows: [0; 50],
+            highs: [0; 50],
+            count: 0,
+            annuity: Pair { low: 0, high: 0 },
+            xs: [ONE; 7],
+            gaps: 0,
+        }
     }
-    Pair {
-        low: w.lows[n - 1] as u64,
-        high: w.highs[n - 1] as u64,
+
+    // ---- the next years
+
+    // One year more, which was judged.
+    fn join_year(&mut self, p: Pair)
+        requires { Factor (as_pair p) × (self.old.count < 50) }
+        ensures factors { as_bootstrap self.new ≡ with_factors (as_bootstrap self.old) ((as_bootstrap self.old).factors ++ as_pair p ∷ []) }
+        ensures count { self.new.count ≡ self.old.count + 1 }
+    {
+        self.lows[self.count] = p.low as u32;
+        self.highs[self.count] = p.high as u32;
+        self.count += 1;
+        self.annuity.low += p.low;
+        self.annuity.high += p.high;
     }
-}
 
-// A gap's rate and years with what stands before it.
-fn gap_after(w: Liquid, k: u64, rate: i64) -> Gap
-    requires { LiquidSound w × (k ≤ 30) × (mag rate ≤ 12_000) }
-    ensures { (as_gap result ≡ gap_after (as_bootstrap w).factors k rate) × GapFits result × Factor (as_pair result.start) }
-{
-    let annuity = w.annuity;
-    let start = last_year(w);
-    Gap {
-        rate: rate,
-        years: k,
-        annuity: annuity,
-        start: start,
+    // The next k years, the last by par, those before it inside a gap; each is judged in turn.
+    fn next_years(&mut self, from: Pair, x: Pair, k: u64, rate: i64) -> Result<(), Ground>
+        requires { (self.old.count + k ≤ 50) × Factor (as_pair from) × (x.low ≤ x.high) × (x.high ≤ upper_end) × (mag rate ≤ 12_000) }
+        ensures { outcome_of (λ _. as_bootstrap self.new) result
+            ≡ lifted (as_bootstrap self.old) (next_years (as_pair from) (as_pair x) k rate (as_bootstrap self.old).factors) }
+    {
+        let mut p = from;
+        for year in 1..=k {
+            let next = next_factor(year < k, p, x, rate, self.annuity);
+            p = judge(self.count as u64 + 1, next.low, next.high)?;
+            self.join_year(p);
+        }
+        Ok(())
     }
-}
 
-// One gap more.
-fn joined_gap(w: Liquid, x: Pair) -> Liquid
-    requires { LiquidSound w × (w.gaps < 7) }
-    ensures { (as_bootstrap result ≡ with_gap (as_bootstrap w) (as_pair x)) × LiquidSound result × (result.count ≡ w.count) }
-{
-    let n = w.gaps;
-    let mut next = w;
-    next.xlows[n] = x.low;
-    next.xhighs[n] = x.high;
-    next.gaps = n + 1;
-    next
-}
+    // ---- a gap
 
-// 9 first, then the gap's years, the last by par.
-fn gap_years(w: Liquid, k: u64, rate: i64) -> Step
-    requires { LiquidSound w × (0 < k) × (k ≤ 30) × (w.count + k ≤ 50) × (w.gaps < 7) × (mag rate ≤ 12_000) }
-    ensures { (as_step result ≡ gap_years k rate (as_bootstrap w)) × LiquidSound result.liquid }
-{
-    let g = gap_after(w, k, rate);
-    if !gap::ends_pass(g) {
-        let last = w.count as u64 + k;
-        return Step {
-            verdict: Verdict::Refused(Ground::EndFailsTest(last)),
-            liquid: w,
-        };
+    // The factor before a gap, 1 where there is none.
+    fn last_year(&self) -> Pair
+        ensures { as_pair result ≡ last_year (as_bootstrap self.now).factors }
+    {
+        let n = self.count;
+        if n == 0 {
+            return ONE;
+        }
+        Pair {
+            low: self.lows[n - 1] as u64,
+            high: self.highs[n - 1] as u64,
+        }
     }
-    let x = gap::yearly_factor(g);
-    let start = g.start;
-    next_years(joined_gap(w, x), start, x, k, rate)
-}
 
-// ---- the quotes in order
-
-// The years to a quote's maturity: the next one by par, or a gap.
-fn years_to(w: Liquid, maturity: u64, rate: i64) -> Step
-    requires { LiquidSound w × Reaches w maturity × (mag rate ≤ 12_000) }
-    ensures { (as_step result ≡ years_to (quote maturity rate) (as_bootstrap w)) × LiquidSound result.liquid }
-{
-    let k = maturity - w.count as u64;
-    if k == 1 {
-        let one = Pair {
-            low: UNIT,
-            high: UNIT,
-        };
-        next_years(w, one, one, 1, rate)
-    } else {
-        gap_years(w, k, rate)
+    // A gap's rate and years with what stands before it.
+    fn gap_after(&self, k: u64, rate: i64) -> Gap
+        requires { (k ≤ 30) × (mag rate ≤ 12_000) }
+        ensures { (as_gap result ≡ gap_after (as_bootstrap self.now).factors k rate) × Factor (as_pair result.start) }
+    {
+        Gap {
+            rate,
+            years: k,
+            annuity: self.annuity,
+            start: self.last_year(),
+        }
     }
-}
 
-// The quotes in the order of their maturities, up to the first ground that applies.
-pub fn bootstrap(q: Quotes) -> Bootstrapped
-    requires { QuotesClimb q }
-    ensures outcome { as_outcome result.verdict (as_bootstrap result.liquid) ≡ bootstrap (as_quotes q) }
-    ensures beside { as_bootstrap result.liquid ≡ result_or nothing (bootstrap (as_quotes q)) }
-    ensures sound { LiquidSound result.liquid }
-{
-    let mut liquid = fresh();
-    let mut i: usize = 0;
-    while i < q.count {
-        let step = years_to(liquid, q.maturities[i], q.rates[i] as i64);
-        let verdict = step.verdict;
-        liquid = step.liquid;
-        let Verdict::Passed = verdict else {
-            let none = fresh();
-            return Bootstrapped {
-                verdict: verdict,
-                liquid: none,
-            };
-        };
-        i = i + 1;
+    // One gap more.
+    fn join_gap(&mut self, x: Pair)
+        requires { self.old.gaps < 7 }
+        ensures gap { as_bootstrap self.new ≡ with_gap (as_bootstrap self.old) (as_pair x) }
+        ensures count { self.new.count ≡ self.old.count }
+    {
+        self.xs[self.gaps] = x;
+        self.gaps += 1;
     }
-    Bootstrapped {
-        verdict: Verdict::Passed,
-        liquid: liquid,
+
+    // 9 first, then the gap's years, the last by par.
+    fn gap_years(&mut self, k: u64, rate: i64) -> Result<(), Ground>
+        requires { (0 < k) × (k ≤ 30) × (self.old.count + k ≤ 50) × (self.old.gaps < 7) × (mag rate ≤ 12_000) }
+        ensures { outcome_of (λ _. as_bootstrap self.new) result ≡ gap_years k rate (as_bootstrap self.old) }
+    {
+        let g = self.gap_after(k, rate);
+        if !gap::ends_pass(g) {
+            return Err(Ground::EndFailsTest(self.count as u64 + k));
+        }
+        let x = gap::yearly_factor(g);
+        self.join_gap(x);
+        self.next_years(g.start, x, k, rate)
+    }
+
+    // ---- a quote
+
+    // The years to its maturity: the next one by par, or a gap.
+    pub(crate) fn years_to(&mut self, maturity: u64, rate: i64) -> Result<(), Ground>
+        requires { Reaches self.old maturity × (mag rate ≤ 12_000) }
+        ensures { outcome_of (λ _. as_bootstrap self.new) result ≡ years_to (quote maturity rate) (as_bootstrap self.old) }
+    {
+        let k = maturity - self.count as u64;
+        if k == 1 {
+            self.next_years(ONE, ONE, 1, rate)
+        } else {
+            self.gap_years(k, rate)
+        }
     }
 }

@@ -2,20 +2,26 @@
 // (SPECIFICATION 5). Each function that takes `up` works a high with it, and a low without.
 #![tactic(auto)]
 
-ghost use Rattle.std.specs.Prelude.{◌≡◌, ℕ, ◌+◌, ◌*◌, ◌-◌, ◌≤◌, ◌<◌, get_or};
+ghost use Rattle.std.specs.Prelude.{◌≡◌, map, ℕ, ◌+◌, ◌*◌, ◌-◌, ◌≤◌, ◌<◌, get_or};
 ghost use Rattle.fraction.specs.Rounding.{U, round_ℕ};
-ghost use Rattle.method.specs.Units.{end_of, pairs_of};
+ghost use Rattle.method.specs.Units.{pair, end_of};
 ghost use Rattle.method.specs.Table.{table};
-ghost use Rattle.method.specs.Extrapolation.{cut, convergence_factor, κ_pairs, decay_pair};
-ghost use Rattle.convergence.specs.Weights.{Factor, TableEntry, cut_end, ends_from, WeightsOf};
+ghost use Rattle.method.specs.Extrapolation.{cut, convergence_factor, κ_pairs, scaled, decay_pair, cut_to_unit, weights_from};
+ghost use Rattle.rounding.specs.Pairs.{as_pair, PairAtMost};
+ghost use Rattle.convergence.specs.Weights.{Factor, TableEntry, WeightsOf};
 
-// U of the definitions.
-const UNIT: u64 = 1_000_000_000;
+use rounding::{Pair, UNIT};
 
 // Of one, and of 10%, in hundred-millionths.
 const ONE: u64 = 100_000_000;
 
 const TEN_PERCENT: u64 = 10_000_000;
+
+// P before the first year.
+const WHOLE: Pair = Pair {
+    low: UNIT,
+    high: UNIT,
+};
 
 // Years 11 to 150: no market extrapolates more.
 const LATER_YEARS: usize = 140;
@@ -37,25 +43,15 @@ const K: [u64; 140] = [
     3546, 3208, 2903, 2627, 2377, 2150, 1946, 1761, 1593, 1441, 1304, 1180, 1068, 966, 874,
 ];
 
-// κ's lows and highs, for h from 1 to 140 at index h - 1.
-#[derive(Clone, Copy)]
-pub struct Weights {
-    pub lows: [u64; 140],
-    pub highs: [u64; 140],
-}
+// κ's pairs, for h from 1 to 140 at index h - 1.
+pub type Weights = [Pair; 140];
 
 // ---- the factor
 
 fn cut(r: i64) -> i64
     ensures { result ≡ cut r }
 {
-    if r < -500 {
-        -500
-    } else if 500 < r {
-        500
-    } else {
-        r
-    }
+    r.clamp(-500, 500)
 }
 
 // 10,000,000 + (X - 10,000) × (500 - r)
@@ -77,17 +73,17 @@ pub fn table() -> [u64; 140]
 }
 
 fn tabled() -> Weights
-    ensures { pairs_of result.lows result.highs ≡ κ_pairs table }
+    ensures { map as_pair result ≡ κ_pairs table }
 {
     let lows = table();
-    let mut highs = [0; 140];
-    for i in 0..LATER_YEARS {
-        highs[i] = lows[i] + 1;
+    let mut weights = [WHOLE; 140];
+    for (i, k) in lows.iter().enumerate() {
+        weights[i] = Pair {
+            low: *k,
+            high: *k + 1,
+        };
     }
-    Weights {
-        lows: lows,
-        highs: highs,
-    }
+    weights
 }
 
 // ---- κ at any other factor
@@ -108,28 +104,39 @@ fn scale_end(a: u64, q: u64, up: bool) -> u64
     rounding::quotient((UNIT - q) * ONE, a, up)
 }
 
-// A high is cut to U.
-fn cut_end(k: u64, up: bool) -> u64
-    ensures { result ≡ cut_end up k }
+// a × b / U, each end rounded outward.
+fn scaled(a: Pair, b: Pair) -> Pair
+    requires { PairAtMost U a × PairAtMost (10 * U) b }
+    ensures { as_pair result ≡ scaled (as_pair a) (as_pair b) }
 {
-    if !up {
-        return k;
+    Pair {
+        low: rounding::quotient(a.low * b.low, UNIT, false),
+        high: rounding::quotient(a.high * b.high, UNIT, true),
     }
-    if k <= UNIT { k } else { UNIT }
+}
+
+// The high is cut to U.
+fn cut_to_unit(k: Pair) -> Pair
+    ensures { as_pair result ≡ cut_to_unit (as_pair k) }
+{
+    Pair {
+        low: k.low,
+        high: k.high.min(UNIT),
+    }
 }
 
 // k(h) = P(h - 1) × M / U, with P(0) = U and P(h) = P(h - 1) × q / U.
-fn ends(q: u64, m: u64, up: bool) -> [u64; 140]
-    requires { (q ≤ U) × (m ≤ 10 * U) }
-    ensures { result ≡ ends_from up q m U 140 }
+fn worked(q: Pair, m: Pair) -> Weights
+    requires { PairAtMost U q × PairAtMost (10 * U) m }
+    ensures { map as_pair result ≡ weights_from (as_pair q) (as_pair m) (pair U U) 140 }
 {
-    let mut ends = [0; 140];
-    let mut p = UNIT;
+    let mut weights = [WHOLE; 140];
+    let mut p = WHOLE;
     for i in 0..LATER_YEARS {
-        ends[i] = cut_end(rounding::quotient(p * m, UNIT, up), up);
-        p = rounding::scale(p, q, up);
+        weights[i] = cut_to_unit(scaled(p, m));
+        p = scaled(p, q);
     }
-    ends
+    weights
 }
 
 // ---- κ
@@ -142,10 +149,13 @@ pub fn weights_at(a: u64) -> Weights
     if a == TEN_PERCENT {
         return tabled();
     }
-    let low = decay_end(a, false);
-    let high = decay_end(a, true);
-    Weights {
-        lows: ends(low, scale_end(a, high, false), false),
-        highs: ends(high, scale_end(a, low, true), true),
-    }
+    let q = Pair {
+        low: decay_end(a, false),
+        high: decay_end(a, true),
+    };
+    let m = Pair {
+        low: scale_end(a, q.high, false),
+        high: scale_end(a, q.low, true),
+    };
+    worked(q, m)
 }

@@ -2,53 +2,57 @@
 use mathlib.Core.Path.{◌≡◌, refl, ap, ap₂, sym, subst, subst⁻¹, ◌∙◌}
 use mathlib.Core.Bool.{Bool, true, false, ◌&&◌}
 use mathlib.Core.List.{List, [], ◌∷◌, map}
-use Prim.Native.Nat.{ℕ, zero, suc, ◌+◌, ◌-◌, ◌≤◌, ◌<◌, zero-le}
+use Prim.Native.Nat.{ℕ, zero, suc, ◌+◌, ◌-◌, ◌≤◌, ◌<◌}
 use native.Mathlib.Omega.{arith}
 use lib.Dec.{leb}
-use lib.IntN.{ℤ, pos, nat_abs}
-use lib.ListN.{length, take, drop, get_or, replicate, length-map, length-take, length-drop, get_or-append}
+use lib.IntN.{ℤ}
+use lib.ListN.{length, take, drop, get_or, replicate, set, length-map, get_or-map, get_or-append}
 use lib.Seq.{take_at, take_all, take-take, length-take-le, get_or-take}
 use lib.Signed.{◌≤ℤ◌}
+use Rattle.std.specs.Prelude.{Result}
+use Rattle.std.proofs.lemmas.List.{take-map}
 use Rattle.fraction.specs.Rounding.{U}
-use Rattle.method.specs.Units.{Which, plain, adjusted, Pair, pair, pairs_of, SignedPair, signed_pair}
+use Rattle.method.specs.Units.{Which, plain, adjusted, Pair, pair, pairs_of, SignedPair}
 use Rattle.method.specs.Grounds.{end_fails_test, refused, done, ◌>>=◌, demand}
 use Rattle.method.specs.Sheet.{maturities, Profile, euro, from_ten, from_fifteen, smoothing_index, volume_count, smoothing_year, Numbers}
 use Rattle.method.specs.Quotes.{lower_end, upper_end, used, last_year}
 use Rattle.method.specs.Series.{gap_forward}
 use Rattle.method.specs.Extrapolation.{llfr, weights, first_raised}
 use Rattle.method.specs.Curve.{used_by, spread, year_over, gap_xs}
-use Rattle.method.specs.Ranges.{logarithm_bound, forward_bound, Each, Factor, YearlyFactor, NumbersInRange}
-use Rattle.method.proofs.QuotesBounds.{bootstrap_bounded}
+use Rattle.method.specs.Ranges.{forward_bound, Each, Factor, YearlyFactor, NumbersInRange}
+use Rattle.method.proofs.QuotesBounds.{bootstrap_bounded, each_at}
 use Rattle.method.proofs.Markets.{smoothing_least, smoothing_most}
 use Rattle.method.proofs.Slots.{some_volume, volume_count_lem}
-use Rattle.method.proofs.Used.{to_smoothing_year, as_many_marks, spread-length, spread_pairs, spread_one}
+use Rattle.method.proofs.Used.{to_smoothing_year, as_many_marks, spread-length, spread_one}
 use Rattle.method.proofs.Stretches.{liquid_holds}
 use Rattle.method.proofs.Weights.{weights-first}
 use Rattle.method.proofs.Enclosure as method
 use Rattle.method.proofs.Forward.{zero_pair, llfr_alone}
-use Rattle.method.proofs.Zips.{zip_take, zip_drop, zip_length, zip_at, pairs_last, pairs_each}
-use Rattle.rounding.specs.Pairs.{as_signed_pair, SizeAtMost}
-use Rattle.rounding.specs.declared.SignedPair as code
+use Rattle.method.proofs.Zips.{all_set, zip_take, zip_length, pairs_last, pairs_each}
+use Rattle.rounding.specs.Pairs.{as_pair, as_signed_pair, SizeAtMost}
+use Rattle.rounding.specs.Pairs as code
+use Rattle.grounds.specs.declared.Ground.{Ground}
+use Rattle.grounds.specs.Answers.{outcome_of}
 use Rattle.bootstrap.specs.declared.Liquid.{Liquid}
 use Rattle.bootstrap.specs.Liquids.{as_bootstrap}
 use Rattle.bootstrap.proofs.Soundness.{count_is}
-use Rattle.extrapolation.specs.declared.Forwards.{Forwards}
-use Rattle.extrapolation.specs.declared.Years.{Years}
-use Rattle.extrapolation.specs.declared.Extended.{Extended}
-use Rattle.extrapolation.specs.Extrapolated.{as_forwards, as_years, as_later, factor_at, ForwardSizes, InRange, Usable, Ahead, Extrapolates, Kept}
-use Rattle.convergence.specs.declared.Weights.{Weights}
+use Rattle.extrapolation.specs.Extrapolated.{Forwards, no_forward}
+use Rattle.extrapolation.proofs.Gaps.{all_small}
+use Rattle.extrapolation.specs.Extrapolated.{Years}
+use Rattle.extrapolation.specs.Extrapolated.{as_forwards, as_years, factor_at, ForwardSizes, InRange, Usable, Ahead}
+use Rattle.extrapolation.specs.Extrapolated.{later_years, Extrapolates, Kept}
 use Rattle.convergence.specs.Weights.{WeightsOf}
-use Rattle.curve.specs.Curves.{first_years, quoted_in, forwards_in, stretched, WorkedQuotes, Extending, Ready}
-use Rattle.curve.proofs.Laws.{spread_over, liquid_done, stretched_done, stretched_refused, later_years}
+use Rattle.curve.specs.Curves.{first_years, quoted_in, forwards_in, stretched, WorkedQuotes, Onward, Ready}
+use Rattle.curve.proofs.Laws.{spread_over, liquid_done, stretched_done, stretched_refused, later_from}
 
 -- ---- the quotes were worked: factors to the smoothing year, and a yearly factor for each gap
 
-module _ {n : Numbers} {q : Liquid} (w : WorkedQuotes n q) where
+module _ {n : Numbers} {q : Liquid} (range : NumbersInRange n) (w : WorkedQuotes n q) where
   abbrev year : ℕ
   year = smoothing_year n.profile
 
   pub least : year ≤ q.count
-  least = rw (← count_is w.sound) (to_smoothing_year n w.worked w.numbers.rate_count)
+  least = rw (← count_is q) (to_smoothing_year n w.worked range.rate_count)
 
   -- the years to it are the first of both arrays
   quoted_are : take year (as_bootstrap q).factors ≡ pairs_of (take year q.lows) (take year q.highs)
@@ -59,10 +63,10 @@ module _ {n : Numbers} {q : Liquid} (w : WorkedQuotes n q) where
   -- ---- the x of the stretches
 
   marked : length (drop (smoothing_index n.profile) (used_by n)) ≡ volume_count n.profile
-  marked = as_many_marks n.profile n.volumes w.numbers.volume_count ∙ volume_count_lem n.profile
+  marked = as_many_marks n.profile n.volumes range.volume_count ∙ volume_count_lem n.profile
 
   spread_in_range : {xs : List Pair} → gap_xs n.profile (as_bootstrap q) ≡ done xs → Each YearlyFactor (spread_over n w.worked xs)
-  spread_in_range e = (liquid_holds n (method.usable n w.numbers) (liquid_done n w.worked e)).in_range
+  spread_in_range e = (liquid_holds n (method.usable n range) (liquid_done n w.worked e)).in_range
 
   -- the euro's five
   module _ (p : n.profile ≡ euro) (vs : List ℕ) (v : n.volumes ≡ vs) where
@@ -76,36 +80,19 @@ module _ {n : Numbers} {q : Liquid} (w : WorkedQuotes n q) where
     unfolding gap_xs
     from_20 = ap (λ (m : Profile). gap_xs m (as_bootstrap q)) p
 
-    module _ {lows highs : List ℕ} (el : lows ≡ spread U marks (drop 2 (take q.gaps q.xlows)))
-        (eh : highs ≡ spread U marks (drop 2 (take q.gaps q.xhighs))) where
-      stretches_are : pairs_of lows highs ≡ spread_over n w.worked (drop 2 (as_bootstrap q).yearly_factors)
-      stretches_are =
-          let xlows = take q.gaps q.xlows in
-          let xhighs = take q.gaps q.xhighs in
-          let same : length (drop 2 xlows) ≡ length (drop 2 xhighs) =
-          simp (length-drop, length-take) (rw (w.sound.long_xlows, w.sound.long_xhighs) refl) in
-          rw (el, eh)
-          (spread_pairs U U marks (drop 2 xlows) (drop 2 xhighs) same
-          ∙ ap₂ (λ (us : List Bool) (xs : List Pair). spread (pair U U) us xs) (sym marks_are) (sym (zip_drop pair 2 xlows xhighs)))
+    module _ (xs : List code.Pair) (e : map as_pair xs ≡ spread (pair U U) marks (drop 2 (as_bootstrap q).yearly_factors)) where
+      stretches_are : map as_pair xs ≡ spread_over n w.worked (drop 2 (as_bootstrap q).yearly_factors)
+      stretches_are = e ∙ ap (λ (us : List Bool). spread (pair U U) us (drop 2 (as_bootstrap q).yearly_factors)) (sym marks_are)
 
-      five_marks : length marks ≡ 5
-      five_marks = ap length (sym marks_are) ∙ marked ∙ ap volume_count p
+      five_xs : length (map as_pair xs) ≡ 5
+      five_xs = ap length e ∙ spread-length (pair U U) marks _ ∙ ap length (sym marks_are) ∙ marked ∙ ap volume_count p
 
-      five_lows : length lows ≡ 5
-      five_lows = ap length el ∙ spread-length U marks _ ∙ five_marks
+      pub five_in_range : (i : ℕ) → i < 5 → YearlyFactor (get_or (map as_pair xs) i (pair 0 0))
+      five_in_range i h = each_at i (pair 0 0) (subst⁻¹ (Each YearlyFactor) stretches_are (spread_in_range from_20)) (omega (arith, five_xs))
 
-      five_highs : length highs ≡ 5
-      five_highs = ap length eh ∙ spread-length U marks _ ∙ five_marks
-
-      pub five_in_range : (i : ℕ) → i < 5 → YearlyFactor (pair (get_or lows i 0) (get_or highs i 0))
-      five_in_range i h =
-          let each = subst⁻¹ (Each YearlyFactor) stretches_are (spread_in_range from_20) in
-          pairs_each lows highs (five_lows ∙ sym five_highs) {P = YearlyFactor} each i (omega (arith, five_lows))
-
-      pub five_stretches : (g : Forwards) → as_forwards g ≡ map gap_forward (pairs_of lows highs) → done (forwards_in n g) ≡ stretched n
+      pub five_stretches : (g : Forwards) → as_forwards g ≡ map gap_forward (map as_pair xs) → done (forwards_in n g) ≡ stretched n
       five_stretches g f =
-          let long : length (as_forwards g) ≡ 5 =
-          ap length f ∙ length-map (pairs_of lows highs) gap_forward ∙ zip_length pair lows highs (five_lows ∙ sym five_highs) ∙ five_lows in
+          let long : length (as_forwards g) ≡ 5 = ap length f ∙ length-map (map as_pair xs) gap_forward ∙ five_xs in
           let all : forwards_in n g ≡ as_forwards g = take_all (volume_count n.profile) (as_forwards g) (omega (arith, long, ap volume_count p)) in
           ap (λ (gs : List SignedPair). done gs) (all ∙ f)
           ∙ ap (λ (xs : List Pair). done (map gap_forward xs)) stretches_are
@@ -173,20 +160,20 @@ module _ {n : Numbers} {q : Liquid} (w : WorkedQuotes n q) where
     -- they are the quotes' own
     pub first_quoted : quoted_in n y ≡ take year (as_bootstrap q).factors
     first_quoted =
-        let lows = first-take q.lows w.sound.long_lows in
-        let highs = first-take q.highs w.sound.long_highs in
+        let lows = first-take q.lows q.sound.long_lows in
+        let highs = first-take q.highs q.sound.long_highs in
         zip_take pair year y.lows y.highs ∙ rw (el, eh, lows, highs) (sym quoted_are)
 
     pub first_in_range : (i : ℕ) → i < year → InRange (factor_at y i)
     first_in_range i h =
         let lows = take q.count q.lows in
         let highs = take q.count q.highs in
-        let long : length lows ≡ q.count = length-take-le q.count q.lows (omega (arith, w.sound.within, w.sound.long_lows)) in
-        let same = long ∙ sym (length-take-le q.count q.highs (omega (arith, w.sound.within, w.sound.long_highs))) in
+        let long : length lows ≡ q.count = length-take-le q.count q.lows (omega (arith, q.sound.within, q.sound.long_lows)) in
+        let same = long ∙ sym (length-take-le q.count q.highs (omega (arith, q.sound.within, q.sound.long_highs))) in
         let f = pairs_each lows highs same (bootstrap_bounded _ w.worked).factors i (omega (arith, long, least)) in
         let g : Factor (pair (get_or q.lows i 0) (get_or q.highs i 0)) =
         rw (get_or-take q.count q.lows i 0 (omega (arith, least)), get_or-take q.count q.highs i 0 (omega (arith, least))) at f in
-        rw (el, eh, first_at q.lows w.sound.long_lows i h, first_at q.highs w.sound.long_highs i h)
+        rw (el, eh, first_at q.lows q.sound.long_lows i h, first_at q.highs q.sound.long_highs i h)
         (record { ordered = g.ordered; at_most = g.greatest })
 
 -- ---- the last of the years to the smoothing year, on two arrays
@@ -207,21 +194,8 @@ module _ (n : Numbers) (y : Years) (hl : length y.lows ≡ 150) (hh : length y.h
 
 -- ---- arrays of forwards, of which the first or none is a market's
 
-none_sized : (M k i : ℕ) → nat_abs (get_or (replicate k (pos 0)) i (pos 0)) ≤ M
-none_sized M zero i = zero-le
-none_sized M (suc k) zero = zero-le
-none_sized M (suc k) (suc i) = none_sized M k i
-
-pub no_sizes : (M : ℕ) → ForwardSizes M (record { lows = replicate 5 (pos 0); highs = replicate 5 (pos 0) })
-no_sizes M = record { low_sizes = none_sized M 5; high_sizes = none_sized M 5 }
-
-one_sized : {M : ℕ} (z : ℤ) → nat_abs z ≤ M → (i : ℕ) → nat_abs (get_or (z ∷ replicate 4 (pos 0)) i (pos 0)) ≤ M
-one_sized z h zero = h
-one_sized {M} z h (suc i) = none_sized M 4 i
-
-pub one_sizes : {M : ℕ} (low high : ℤ) → nat_abs low ≤ M → nat_abs high ≤ M →
-    ForwardSizes M (record { lows = low ∷ replicate 4 (pos 0); highs = high ∷ replicate 4 (pos 0) })
-one_sizes low high l h = record { low_sizes = one_sized low l; high_sizes = one_sized high h }
+pub one_sizes : {M : ℕ} (f : code.SignedPair) → SizeAtMost M f → ForwardSizes M (set (replicate 5 no_forward) 0 f)
+one_sizes {M} f h = record { sizes = all_set (SizeAtMost M) no_forward (replicate 5 no_forward) 0 (all_small M 5).sizes h }
 
 -- ---- LLFR's volumes and forwards, five or one
 
@@ -230,22 +204,22 @@ five_or_one euro h = refl
 five_or_one from_ten h = absurd (h refl)
 five_or_one from_fifteen h = absurd (h refl)
 
-module _ (n : Numbers) (g : Forwards) (lows : length g.lows ≡ 5) (highs : length g.highs ≡ 5) where
+module _ (n : Numbers) (g : Forwards) (five : length g ≡ 5) where
   forwards_long : length (as_forwards g) ≡ 5
-  forwards_long = zip_length signed_pair g.lows g.highs (lows ∙ sym highs) ∙ lows
+  forwards_long = length-map g as_signed_pair ∙ five
 
   pub all_five : volume_count n.profile ≡ 5 → forwards_in n g ≡ as_forwards g
-  all_five five = ap (λ (k : ℕ). take k (as_forwards g)) five ∙ take_all 5 (as_forwards g) (omega (arith, forwards_long))
+  all_five all = ap (λ (k : ℕ). take k (as_forwards g)) all ∙ take_all 5 (as_forwards g) (omega (arith, forwards_long))
 
   -- with one volume it is that volume's forward
   pub llfr-first : NumbersInRange n → volume_count n.profile ≡ 1 →
-      llfr n.volumes (forwards_in n g) ≡ signed_pair (get_or g.lows 0 (pos 0)) (get_or g.highs 0 (pos 0))
+      llfr n.volumes (forwards_in n g) ≡ as_signed_pair (get_or g 0 no_forward)
   llfr-first r one =
       let count = volume_count n.profile in
       let few : length (forwards_in n g) ≡ 1 = length-take-le count (as_forwards g) (omega (arith, forwards_long, one)) ∙ one in
       llfr_alone n.volumes (forwards_in n g) (r.volume_count ∙ one) few r.total_least
       ∙ get_or-take count (as_forwards g) 0 zero_pair (omega (arith, one))
-      ∙ zip_at signed_pair g.lows g.highs 0 (pos 0) (pos 0) (lows ∙ sym highs)
+      ∙ get_or-map as_signed_pair g 0 no_forward
 
 -- the first of them is raised
 take_raised : (a : ℤ) (k : ℕ) (gs : List SignedPair) → 1 ≤ k → take k (first_raised a gs) ≡ first_raised a (take k gs)
@@ -264,11 +238,6 @@ pub adjusted_to_20 : (n : Numbers) → NumbersInRange n → n.adjusts ≡ true �
 unfolding smoothing_year maturities
 adjusted_to_20 n r t = ap smoothing_year (r.adjusts_euro t)
 
--- ---- a wider bound
-
-pub wider : (g : Forwards) → ForwardSizes logarithm_bound g → ForwardSizes forward_bound g
-wider g s = record { low_sizes = λ i. omega (arith, s.low_sizes i); high_sizes = λ i. omega (arith, s.high_sizes i) }
-
 -- ---- a forward by its definition
 
 pub usable : (f : code.SignedPair) {p : SignedPair} → as_signed_pair f ≡ p → SizeAtMost forward_bound f → p.low ≤ℤ p.high → Usable f
@@ -277,32 +246,36 @@ usable f e b h = record { size = b; ordered = subst⁻¹ (λ (p : SignedPair). p
 -- ---- κ's pairs by their promise
 
 -- as many as there are years after the smoothing year, as the code found it
-module _ (a : ℕ) (r : Weights) (w : WeightsOf a r) (lows : length r.lows ≡ 140) (highs : length r.highs ≡ 140) (p : Profile) {k : ℕ}
-    (is : k ≡ smoothing_year p) where
+module _ (a : ℕ) (κs : List code.Pair) (w : WeightsOf a κs) (long : length κs ≡ 140) (p : Profile) {k : ℕ} (is : k ≡ smoothing_year p) where
   abbrev later : ℕ
   later = 150 - k
 
   few : later ≤ 140
   few = omega (arith, is, smoothing_least p)
 
-  pub weights_ahead : Ahead (take later r.lows) (take later r.highs) (smoothing_year p)
+  abbrev taken : List Pair
+  taken = map as_pair (take later κs)
+
+  taken_is : taken ≡ take later (map as_pair κs)
+  taken_is = sym (take-map as_pair later κs)
+
+  pub weights_ahead : Ahead taken (smoothing_year p)
   weights_ahead =
-      let long = length-take-le later r.lows (omega (arith, few)) in
+      let count : length taken ≡ later = length-map (take later κs) as_pair ∙ length-take-le later κs (omega (arith, few)) in
       record {
         started = omega (arith, smoothing_least p);
-        to_150 = omega (arith, long, is, smoothing_most p);
-        as_many = length-take-le later r.highs (omega (arith, few)) ∙ sym long;
+        to_150 = omega (arith, count, is, smoothing_most p);
         ranges =
             λ i h.
-            let inside : i < later = omega (arith, long) in
+            let inside : i < later = omega (arith, count) in
             let weight = w.weigh i (omega (arith, few)) in
-            rw (get_or-take later r.lows i 0 inside, get_or-take later r.highs i 0 inside)
+            rw (taken_is, get_or-take later (map as_pair κs) i (pair 0 0) inside)
             (record { ordered = weight.ordered; at_most_U = weight.at_most_U });
       }
 
-  pub weights_later : pairs_of (take later r.lows) (take later r.highs) ≡ weights a (150 - smoothing_year p)
+  pub weights_later : taken ≡ weights a (150 - smoothing_year p)
   weights_later =
-      sym (zip_take pair later r.lows r.highs)
+      taken_is
       ∙ ap (take later) w.pairs
       ∙ weights-first a later 140 few
       ∙ ap (λ (s : ℕ). weights a (150 - s)) is
@@ -314,10 +287,10 @@ abbrev pub forwards_of : Which → ℤ → List SignedPair → List SignedPair
 forwards_of plain a gs = gs
 forwards_of adjusted a gs = first_raised a gs
 
-module _ {n : Numbers} {l : code.SignedPair} {g : Forwards} {klows khighs : List ℕ} {years : Years} (r : Ready n l g klows khighs years) where
+module _ {n : Numbers} {g : Forwards} {years : Years} (range : NumbersInRange n) (r : Ready n g years) where
   ordered : (w : Which) → let f = llfr n.volumes (forwards_of w n.adjustment (forwards_in n g)) in f.low ≤ℤ f.high
-  ordered plain = rw r.forwards (method.llfr_ordered n (method.usable n r.numbers) r.worked plain)
-  ordered adjusted = rw r.forwards (method.llfr_ordered n (method.usable n r.numbers) r.worked adjusted)
+  ordered plain = rw r.forwards (method.llfr_ordered n (method.usable n range) r.worked plain)
+  ordered adjusted = rw r.forwards (method.llfr_ordered n (method.usable n range) r.worked adjusted)
 
   -- of either curve
   pub liquid_usable : (w : Which) (f : code.SignedPair) → as_signed_pair f ≡ llfr n.volumes (forwards_of w n.adjustment (forwards_in n g)) →
@@ -326,24 +299,18 @@ module _ {n : Numbers} {l : code.SignedPair} {g : Forwards} {klows khighs : List
 
 -- ---- the extrapolation starts at the sheet's smoothing year, as the code found it
 
-module _ {n : Numbers} {l f : code.SignedPair} {klows khighs : List ℕ} {y : Years} (e : Extending n l f klows khighs y) {k : ℕ}
+module _ {n : Numbers} {l : code.SignedPair} {κs : List Pair} (o : Onward n l κs) (y : Years) {k : ℕ}
     (is : k ≡ smoothing_year n.profile) where
-  pub ahead_at : Ahead klows khighs k
-  ahead_at = subst⁻¹ (Ahead klows khighs) is e.onward.ahead
-
-  pub last_at : InRange (factor_at y (k - 1))
-  last_at = subst⁻¹ (λ (s : ℕ). InRange (factor_at y (s - 1))) is e.last
-
-  pub later_is : length y.lows ≡ 150 → length y.highs ≡ 150 → (r : Extended) → Extrapolates l f klows khighs k y r →
-      as_later (smoothing_year n.profile) r ≡ later_years n (as_signed_pair f) (quoted_in n y)
-  later_is hl hh r o =
-      subst (λ (s : ℕ). Extrapolates l f klows khighs s y r) is o ∙ rw (e.onward.ultimate, e.onward.pairs, last_quoted n y hl hh)
+  pub later_is : (f : code.SignedPair) → length y.lows ≡ 150 → length y.highs ≡ 150 → (r : Result Years Ground) → Extrapolates l f κs k y r →
+      outcome_of (later_years (smoothing_year n.profile)) r ≡ later_from n (as_signed_pair f) (quoted_in n y)
+  later_is f hl hh r x =
+      subst (λ (s : ℕ). Extrapolates l f κs s y r) is x ∙ rw (o.ultimate, o.pairs, last_quoted n y hl hh)
 
   -- the quoted years stay
-  pub kept_quoted : (r : Extended) → Kept k y r → quoted_in n r.years ≡ quoted_in n y
-  kept_quoted r kept =
+  pub kept_quoted : (x : Years) → Kept k y x → quoted_in n x ≡ quoted_in n y
+  kept_quoted x kept =
       let year = smoothing_year n.profile in
-      let stay = subst (λ (s : ℕ). Kept s y r) is kept in
-      zip_take pair year r.years.lows r.years.highs
+      let stay = subst (λ (s : ℕ). Kept s y x) is kept in
+      zip_take pair year x.lows x.highs
       ∙ ap₂ (λ (ls hs : List ℕ). pairs_of ls hs) stay.quoted_lows stay.quoted_highs
       ∙ sym (zip_take pair year y.lows y.highs)

@@ -1,5 +1,6 @@
 -- The declared curves as the method's, and what the functions between the quotes and the curves cite of `curves_of`.
-use Rattle.std.specs.Prelude.{◌≡◌, Bool, true, false, List, ◌++◌, ℕ, ◌-◌, ◌<◌, eqb, take, drop, replicate}
+use Rattle.std.specs.Prelude.{◌≡◌, Bool, true, false, List, ◌++◌, ℕ, zero, suc, ◌-◌, ◌<◌, eqb, take, drop, replicate, Option}
+use Rattle.std.specs.declared.option.Option.TheVariants.{Some, None}
 use Rattle.method.specs.Units.{Pair, SignedPair, pairs_of}
 use Rattle.method.specs.Grounds.{band_too_wide, Outcome, done, ◌>>=◌, demand}
 use Rattle.method.specs.Sheet.{volume_count, smoothing_year, Numbers}
@@ -8,13 +9,13 @@ use Rattle.method.specs.Series.{ultimate_forward}
 use Rattle.method.specs.Extrapolation.{llfr, weights, adjusted_years, first_raised, first_too_wide}
 use Rattle.method.specs.Curve as method
 use Rattle.method.specs.Curve.{Held, none, some, used_quotes, liquid_of, forwards, factor_of, extended, curve_with}
-use Rattle.method.specs.Ranges.{logarithm_bound, NumbersInRange}
+use Rattle.method.specs.Ranges.{logarithm_bound}
 use Rattle.rounding.specs.Pairs.{as_signed_pair}
-use Rattle.rounding.specs.declared.SignedPair as code
+use Rattle.rounding.specs.Pairs as code
 use Rattle.bootstrap.specs.declared.Liquid.{Liquid}
-use Rattle.bootstrap.specs.Liquids.{as_bootstrap, LiquidSound}
-use Rattle.extrapolation.specs.declared.Forwards.{Forwards}
-use Rattle.extrapolation.specs.declared.Years.{Years}
+use Rattle.bootstrap.specs.Liquids.{as_bootstrap}
+use Rattle.extrapolation.specs.Extrapolated.{Forwards}
+use Rattle.extrapolation.specs.Extrapolated.{Years}
 use Rattle.extrapolation.specs.Extrapolated.{as_forwards, as_years, factor_at, ForwardSizes, InRange, Usable, Ahead}
 use Rattle.curve.specs.declared.Curve.{Curve}
 use Rattle.curve.specs.declared.Curves.{Curves}
@@ -22,20 +23,12 @@ use Rattle.curve.specs.declared.Curves.{Curves}
 abbrev pub as_curve : Curve → method.Curve
 as_curve c = record { month = c.month; limit = c.limit; lows = c.years.lows; highs = c.years.highs }
 
--- a flag beside a curve
-abbrev pub as_held : Bool → Curve → Held method.Curve
-as_held true c = some (as_curve c)
-as_held false c = none
+abbrev pub as_held : Option Curve → Held method.Curve
+as_held (Some c) = some (as_curve c)
+as_held None = none
 
 abbrev pub as_curves : Curves → method.Curves
-as_curves cs = record { plain = as_curve cs.plain; adjusted = as_held cs.adjusts cs.adjusted }
-
--- what stands beside a refusal
-abbrev pub no_curve : method.Curve
-no_curve = record { month = 0; limit = 0; lows = replicate 150 0; highs = replicate 150 0 }
-
-abbrev pub no_curves : method.Curves
-no_curves = record { plain = no_curve; adjusted = none }
+as_curves cs = record { plain = as_curve cs.plain; adjusted = as_held cs.adjusted }
 
 -- ---- the steps of `curves_of`
 
@@ -89,30 +82,31 @@ banded c = do
   _ ← demand (eqb wide 0) (band_too_wide wide)
   done c
 
+-- a year, or 0 where there is none
+abbrev pub year_or_none : ℕ → Option ℕ
+year_or_none zero = None
+year_or_none (suc y) = Some (suc y)
+
 -- ---- what they ask
 
 -- the quotes that a sheet's numbers leave, none refused
 pub record WorkedQuotes (n : Numbers) (q : Liquid) : Type 0 where
-  pub numbers : NumbersInRange n
   pub worked : bootstrap (used_quotes n) ≡ done (as_bootstrap q)
-  pub sound : LiquidSound q
 
 -- L and κ are the sheet's, and κ has a pair for each year after the smoothing year
-pub record Onward (n : Numbers) (l : code.SignedPair) (klows khighs : List ℕ) : Type 0 where
+pub record Onward (n : Numbers) (l : code.SignedPair) (κs : List Pair) : Type 0 where
   pub ultimate : as_signed_pair l ≡ ultimate_forward n.ultimate
   pub usable : Usable l
-  pub ahead : Ahead klows khighs (smoothing_year n.profile)
-  pub pairs : pairs_of klows khighs ≡ weights (factor_of n) (150 - smoothing_year n.profile)
+  pub ahead : Ahead κs (smoothing_year n.profile)
+  pub pairs : κs ≡ weights (factor_of n) (150 - smoothing_year n.profile)
 
-pub record Extending (n : Numbers) (l f : code.SignedPair) (klows khighs : List ℕ) (years : Years) : Type 0 where
-  pub onward : Onward n l klows khighs
+-- a forward and the last of the years to the smoothing year
+pub record Extending (n : Numbers) (f : code.SignedPair) (years : Years) : Type 0 where
   pub usable : Usable f
   pub last : InRange (factor_at years (smoothing_year n.profile - 1))
 
 -- the forwards are those of quotes that were worked, whose years to the smoothing year passed
-pub record Ready (n : Numbers) (l : code.SignedPair) (g : Forwards) (klows khighs : List ℕ) (years : Years) : Type 0 where
-  pub onward : Onward n l klows khighs
-  pub numbers : NumbersInRange n
+pub record Ready (n : Numbers) (g : Forwards) (years : Years) : Type 0 where
   pub quotes : Bootstrap
   pub worked : liquid_of n ≡ done quotes
   pub forwards : forwards_in n g ≡ forwards quotes

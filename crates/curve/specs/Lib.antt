@@ -1,1 +1,2 @@
 pub mod Curves
+pub mod Alike

@@ -1,26 +1,27 @@
 // The curves of years 1 to 150 from a sheet's numbers, the plain one and the adjusted, or the first of grounds 7 to 10.
 #![tactic(auto)]
 
-ghost use Rattle.std.specs.Prelude.{◌≡◌, true, false, ◌&&◌, [], ◌∷◌, ◌-◌, ◌≤◌, leb, take};
-ghost use Rattle.method.specs.Ranges.{logarithm_bound, forward_bound, YearlyFactor, NumbersInRange};
+ghost use Rattle.std.specs.Prelude.{◌≡◌, true, ◌&&◌, [], ◌∷◌, map, ◌-◌, ◌≤◌, leb, take, IfOk};
+ghost use Rattle.std.proofs.Props.{props};
+ghost use Rattle.method.specs.Ranges.{logarithm_bound, forward_bound, YearlyFactor};
 ghost use Rattle.method.specs.Sheet.{euro, from_ten};
 ghost use Rattle.method.specs.Grounds.{done};
-ghost use Rattle.method.specs.Quotes.{lower_end, upper_end};
+ghost use Rattle.method.specs.Quotes.{lower_end, upper_end, bootstrap};
 ghost use Rattle.method.specs.Series.{gap_forward};
 ghost use Rattle.method.specs.Extrapolation.{llfr, first_too_wide};
 ghost use Rattle.method.specs.Curve.{factor_of, curves_of};
 ghost use Rattle.convergence.specs.Weights.{Factor};
 ghost use Rattle.rounding.specs.Pairs.{as_pair, as_signed_pair, SizeAtMost};
-ghost use Rattle.grounds.specs.Verdicts.{as_outcome, result_or};
+ghost use Rattle.grounds.specs.Answers.{outcome_of};
 ghost use Rattle.sheet.specs.Views.{as_numbers, as_profile};
-ghost use Rattle.grounds.specs.declared.Verdict.TheVariants.{Passed};
 ghost use Rattle.extrapolation.specs.Extrapolated.{as_forwards, as_years, ForwardSizes};
-ghost use Rattle.curve.specs.Curves.{as_curve, as_curves, no_curve, no_curves, first_years, quoted_in, forwards_in, stretched, curve_from, adjusted_over};
-ghost use Rattle.curve.specs.Curves.{curves_over, banded, WorkedQuotes, Extending, Ready};
+ghost use Rattle.curve.specs.Curves.{as_curve, as_curves, first_years, quoted_in, forwards_in, stretched, curve_from, adjusted_over, curves_over};
+ghost use Rattle.curve.specs.Curves.{year_or_none, banded, WorkedQuotes, Onward, Extending, Ready};
+ghost use Rattle.curve.specs.Alike.{each_alike};
 
 use bootstrap::Liquid;
 use extrapolation::{Forwards, Years};
-use grounds::{Ground, Verdict};
+use grounds::Ground;
 use rounding::{Pair, SignedPair};
 use sheet::{Numbers, Profile};
 
@@ -44,135 +45,84 @@ pub struct Curve {
     pub years: Years,
 }
 
-// Without `adjusts` the adjusted curve is all zero and stands for none.
+// The adjusted one where the sheet has an adjustment.
 #[derive(Clone, Copy)]
 pub struct Curves {
     pub plain: Curve,
-    pub adjusts: bool,
-    pub adjusted: Curve,
+    pub adjusted: Option<Curve>,
 }
 
-// One curve, all zero where it is refused.
-#[derive(Clone, Copy)]
-struct Single {
-    verdict: Verdict,
-    curve: Curve,
-}
-
-// The curves are all zero where the numbers are refused.
-#[derive(Clone, Copy)]
-pub struct Worked {
-    pub verdict: Verdict,
-    pub curves: Curves,
-}
-
-// ---- the forwards
-
-// The first ones are the market's, as many as it has volumes.
-#[derive(Clone, Copy)]
-struct Stretched {
-    verdict: Verdict,
-    forwards: Forwards,
-}
-
-fn no_forwards() -> Forwards
-    ensures { ForwardSizes logarithm_bound result }
-{
-    Forwards {
-        lows: [0i64; 5],
-        highs: [0i64; 5],
-    }
-}
-
-// The euro's g1 to g5.
-fn five_forwards(n: Numbers, q: Liquid) -> Forwards
-    requires { WorkedQuotes (as_numbers n) q × (as_profile n.profile ≡ euro) }
-    ensures { (done (forwards_in (as_numbers n) result) ≡ stretched (as_numbers n)) × ForwardSizes logarithm_bound result }
-{
-    let volumes = n.volumes;
-    let xlows = q.xlows;
-    let xhighs = q.xhighs;
-    let lows = used_quotes::spread_out(volumes, xlows, q.gaps);
-    let highs = used_quotes::spread_out(volumes, xhighs, q.gaps);
-    extrapolation::gap_forwards(lows, highs)
-}
+// ---- the forwards: the first ones are the market's, as many as it has volumes
 
 // The one of a market with one volume.
 fn one_forward(x: Pair) -> Forwards
     requires { YearlyFactor (as_pair x) }
     ensures { (take 1 (as_forwards result) ≡ gap_forward (as_pair x) ∷ []) × ForwardSizes logarithm_bound result }
 {
-    let f = series::gap_forward(x);
-    Forwards {
-        lows: [f.low, 0, 0, 0, 0],
-        highs: [f.high, 0, 0, 0, 0],
-    }
+    let mut g = [SignedPair { low: 0, high: 0 }; 5];
+    g[0] = series::gap_forward(x);
+    g
 }
 
 fn within_ends(x: Pair) -> bool
     ensures { result ≡ (leb lower_end x.low && leb x.high upper_end) }
 {
-    if LOWER_END <= x.low {
-        x.high <= UPPER_END
-    } else {
-        false
-    }
+    LOWER_END <= x.low && x.high <= UPPER_END
 }
 
-// Profile 2 has no gap: its x is year 10 over year 9, which 9 tries here.
-fn own_forward(n: Numbers, q: Liquid) -> Stretched
-    requires { WorkedQuotes (as_numbers n) q × (as_profile n.profile ≡ from_ten) }
-    ensures outcome { as_outcome result.verdict (forwards_in (as_numbers n) result.forwards) ≡ stretched (as_numbers n) }
-    ensures sizes { ForwardSizes logarithm_bound result.forwards }
-{
-    let x = used_quotes::year_over(q, YEAR_TEN);
-    if !within_ends(x) {
-        return Stretched {
-            verdict: Verdict::Refused(Ground::EndFailsTest(YEAR_TEN as u64)),
-            forwards: no_forwards(),
-        };
-    }
-    Stretched {
-        verdict: Verdict::Passed,
-        forwards: one_forward(x),
-    }
+// A sheet's numbers, and the liquid part of the quotes that they leave.
+#[derive(Clone, Copy)]
+struct Worked {
+    n: Numbers,
+    q: Liquid,
+    ghost worked: { WorkedQuotes (as_numbers n) q } by { Prim.hlevel (each_alike, props) },
 }
 
-// g1, and on to g5 for the euro. Profile 3 has two gaps, and the second ends with its smoothing year.
-fn forwards_of(n: Numbers, q: Liquid) -> Stretched
-    requires { WorkedQuotes (as_numbers n) q }
-    ensures outcome { as_outcome result.verdict (forwards_in (as_numbers n) result.forwards) ≡ stretched (as_numbers n) }
-    ensures sizes { ForwardSizes logarithm_bound result.forwards }
-{
-    let profile = n.profile;
-    match profile {
-        Profile::Euro => Stretched {
-            verdict: Verdict::Passed,
-            forwards: five_forwards(n, q),
-        },
-        Profile::FromTen => own_forward(n, q),
-        Profile::FromFifteen => Stretched {
-            verdict: Verdict::Passed,
-            forwards: one_forward(used_quotes::gap_x(q, 1)),
-        },
+impl Worked {
+    // The euro's g1 to g5.
+    fn five_forwards(self) -> Forwards
+        requires { as_profile self.n.profile ≡ euro }
+        ensures { (done (forwards_in (as_numbers self.n) result) ≡ stretched (as_numbers self.n)) × ForwardSizes logarithm_bound result }
+    {
+        extrapolation::gap_forwards(used_quotes::spread_out(self.n.volumes, self.q.xs, self.q.gaps))
+    }
+
+    // Profile 2 has no gap: its x is year 10 over year 9, which 9 tries here.
+    fn own_forward(self) -> Result<Forwards, Ground>
+        requires { as_profile self.n.profile ≡ from_ten }
+        ensures outcome { outcome_of (forwards_in (as_numbers self.n)) result ≡ stretched (as_numbers self.n) }
+        ensures sizes { IfOk result (λ g. ForwardSizes logarithm_bound g) }
+    {
+        let x = used_quotes::year_over(self.q, YEAR_TEN);
+        if !within_ends(x) {
+            return Err(Ground::EndFailsTest(YEAR_TEN as u64));
+        }
+        Ok(one_forward(x))
+    }
+
+    // g1, and on to g5 for the euro. Profile 3 has two gaps, and the second ends with its smoothing year.
+    fn forwards(self) -> Result<Forwards, Ground>
+        ensures outcome { outcome_of (forwards_in (as_numbers self.n)) result ≡ stretched (as_numbers self.n) }
+        ensures sizes { IfOk result (λ g. ForwardSizes logarithm_bound g) }
+    {
+        match self.n.profile {
+            Profile::Euro => Ok(self.five_forwards()),
+            Profile::FromTen => self.own_forward(),
+            Profile::FromFifteen => Ok(one_forward(used_quotes::gap_x(self.q, 1))),
+        }
     }
 }
 
 // LLFR. With one volume it is that volume's forward.
 fn llfr_of(n: Numbers, g: Forwards) -> SignedPair
-    requires { NumbersInRange (as_numbers n) × ForwardSizes forward_bound g }
+    requires { ForwardSizes forward_bound g }
     ensures { (as_signed_pair result ≡ llfr (as_numbers n).volumes (forwards_in (as_numbers n) g)) × SizeAtMost forward_bound result }
 {
-    let profile = n.profile;
-    let market = sheet::market_of(profile);
+    let market = n.profile.market();
     if market.quotes - market.smoothing == 1 {
-        return SignedPair {
-            low: g.lows[0],
-            high: g.highs[0],
-        };
+        return g[0];
     }
-    let volumes = n.volumes;
-    extrapolation::llfr(volumes, g)
+    extrapolation::llfr(n.volumes, g)
 }
 
 // ---- from the quotes to the extrapolation
@@ -199,244 +149,120 @@ fn first_years(q: Liquid, year: usize) -> Years
 
 // The sheet's convergence factor, by its phase-in and the rate of the smoothing year.
 fn factor_of(n: Numbers) -> u64
-    requires { NumbersInRange (as_numbers n) }
     ensures { (result ≡ factor_of (as_numbers n)) × Factor result }
 {
-    let profile = n.profile;
-    let market = sheet::market_of(profile);
-    let smoothing = market.smoothing;
+    let smoothing = n.profile.market().smoothing;
     convergence::factor(n.phase_in, n.rates[smoothing] as i64)
 }
 
 // ---- ground 10
 
-fn band(low: u64, high: u64) -> u64
-    ensures { result ≡ high - low }
+// The first year whose band passes the limit.
+fn first_too_wide(years: &Years, limit: u64) -> Option<u64>
+    ensures { result ≡ year_or_none (first_too_wide limit 1 (as_years years.now)) }
 {
-    if low < high { high - low } else { 0 }
-}
-
-// The first year whose band passes the limit; 0 where none does.
-fn first_too_wide(years: Years, limit: u64) -> u64
-    ensures { result ≡ first_too_wide limit 1 (as_years years) }
-{
-    let mut i: usize = 0;
-    while i < YEARS {
-        if limit < band(years.lows[i] as u64, years.highs[i] as u64) {
-            return i as u64 + 1;
-        }
-        i += 1;
-    }
-    0
-}
-
-// What stands beside a refusal, and in a book that has no curve.
-pub fn no_curve() -> Curve
-    ensures { as_curve result ≡ no_curve }
-{
-    Curve {
-        month: 0,
-        limit: 0,
-        years: Years {
-            lows: [0; 150],
-            highs: [0; 150],
-        },
-    }
-}
-
-fn refused(verdict: Verdict) -> Single
-    ensures verdict { result.verdict ≡ verdict }
-    ensures beside { as_curve result.curve ≡ no_curve }
-{
-    Single {
-        verdict: verdict,
-        curve: no_curve(),
-    }
+    years
+        .lows
+        .iter()
+        .zip(&years.highs)
+        .position(|(low, high)| limit < high.saturating_sub(*low) as u64)
+        .map(|i| i as u64 + 1)
 }
 
 // Tried after all years are worked.
-fn judged(c: Curve) -> Single
-    ensures outcome { as_outcome result.verdict (as_curve result.curve) ≡ banded (as_curve c) }
-    ensures beside { as_curve result.curve ≡ result_or no_curve (banded (as_curve c)) }
+fn judged(c: Curve) -> Result<Curve, Ground>
+    ensures { outcome_of as_curve result ≡ banded (as_curve c) }
 {
-    let years = c.years;
-    let wide = first_too_wide(years, c.limit);
-    if wide != 0 {
-        return refused(Verdict::Refused(Ground::BandTooWide(wide)));
-    }
-    Single {
-        verdict: Verdict::Passed,
-        curve: c,
+    match first_too_wide(&c.years, c.limit) {
+        Some(wide) => Err(Ground::BandTooWide(wide)),
+        None => Ok(c),
     }
 }
 
-// ---- one curve
+// ---- the curves, from the forwards and the years to the smoothing year: grounds 8 and 10
 
-// From the years to the smoothing year and LLFR, with L and κ: 8 on the extrapolated years, then 10.
-fn extended(
+// What both are extended with beside them: L and κ, which has a pair for each year after the smoothing year.
+#[derive(Clone, Copy)]
+struct Extension<'a> {
     n: Numbers,
     l: SignedPair,
-    f: SignedPair,
-    klows: &[u64],
-    khighs: &[u64],
-    years: Years,
-) -> Single
-    requires { Extending (as_numbers n) l f klows.now khighs.now years }
-    ensures outcome { as_outcome result.verdict (as_curve result.curve) ≡ curve_from (as_numbers n) (as_signed_pair f) (quoted_in (as_numbers n) years) }
-    ensures beside { as_curve result.curve ≡ result_or no_curve (curve_from (as_numbers n) (as_signed_pair f) (quoted_in (as_numbers n) years)) }
-{
-    let profile = n.profile;
-    let year = sheet::smoothing_year(profile) as usize;
-    let extended = extrapolation::extrapolate(l, f, klows, khighs, year, years);
-    let verdict = extended.verdict;
-    let Verdict::Passed = verdict else {
-        return refused(verdict);
-    };
-    let years = extended.years;
-    judged(Curve {
-        month: n.month,
-        limit: n.limit,
-        years: years,
-    })
+    weights: &'a [Pair],
+    ghost onward: { Onward (as_numbers n) l (map as_pair weights.now) },
 }
 
-// The euro's only: 8 on the adjusted years, then the same on those after them, from the changed LLFR.
-fn adjusted(
-    n: Numbers,
-    l: SignedPair,
-    g: Forwards,
-    klows: &[u64],
-    khighs: &[u64],
-    years: Years,
-) -> Single
-    requires { Ready (as_numbers n) l g klows.now khighs.now years × (n.adjusts ≡ true) }
-    ensures outcome { as_outcome result.verdict (as_curve result.curve) ≡ adjusted_over (as_numbers n) g years }
-    ensures beside { as_curve result.curve ≡ result_or no_curve (adjusted_over (as_numbers n) g years) }
-{
-    let lowered = adjustment::adjusted_years(n.adjustment, years);
-    let verdict = lowered.verdict;
-    let Verdict::Passed = verdict else {
-        return refused(verdict);
-    };
-    let f = llfr_of(n, adjustment::raise_first(g, n.adjustment));
-    let first = lowered.years;
-    extended(n, l, f, klows, khighs, first)
+impl Extension<'_> {
+    // From LLFR: 8 on the extrapolated years, then 10.
+    fn extended(&self, f: SignedPair, years: Years) -> Result<Curve, Ground>
+        requires { Extending (as_numbers self.now.n) f years }
+        ensures { outcome_of as_curve result ≡ curve_from (as_numbers self.now.n) (as_signed_pair f) (quoted_in (as_numbers self.now.n) years) }
+    {
+        let start = self.n.profile.smoothing_year() as usize;
+        let years = extrapolation::extrapolate(self.l, f, self.weights, start, years)?;
+        judged(Curve {
+            month: self.n.month,
+            limit: self.n.limit,
+            years,
+        })
+    }
+
+    // The euro's only: 8 on the adjusted years, then the same on those after them, from the changed LLFR.
+    fn adjusted(&self, a: i64, g: Forwards, years: Years) -> Result<Curve, Ground>
+        requires ready { Ready (as_numbers self.now.n) g years }
+        requires adjusts { ((as_numbers self.now.n).adjusts ≡ true) × ((as_numbers self.now.n).adjustment ≡ a) }
+        ensures { outcome_of as_curve result ≡ adjusted_over (as_numbers self.now.n) g years }
+    {
+        let first = adjustment::adjusted_years(a, years)?;
+        self.extended(llfr_of(self.n, adjustment::raise_first(g, a)), first)
+    }
+
+    // The plain curve first; then the adjusted one, where the sheet has an adjustment.
+    fn both(&self, g: Forwards, years: Years) -> Result<Curves, Ground>
+        requires { Ready (as_numbers self.now.n) g years }
+        ensures { outcome_of as_curves result ≡ curves_over (as_numbers self.now.n) g years }
+    {
+        let plain = self.extended(llfr_of(self.n, g), years)?;
+        let Some(a) = self.n.adjustment else {
+            return Ok(Curves {
+                plain,
+                adjusted: None,
+            });
+        };
+        let lowered = self.adjusted(a, g, years)?;
+        Ok(Curves {
+            plain,
+            adjusted: Some(lowered),
+        })
+    }
 }
 
 // ---- both: grounds 7 to 10
 
-fn unworked(verdict: Verdict) -> Worked
-    ensures verdict { result.verdict ≡ verdict }
-    ensures beside { as_curves result.curves ≡ no_curves }
-    ensures unused { as_curve result.curves.adjusted ≡ no_curve }
-{
-    Worked {
-        verdict: verdict,
-        curves: Curves {
-            plain: no_curve(),
-            adjusts: false,
-            adjusted: no_curve(),
-        },
+impl Worked {
+    // From the forwards of the quotes.
+    fn curves(self, g: Forwards) -> Result<Curves, Ground>
+        requires { (stretched (as_numbers self.n) ≡ done (forwards_in (as_numbers self.n) g)) × ForwardSizes logarithm_bound g }
+        ensures { outcome_of as_curves result ≡ curves_of (as_numbers self.n) }
+    {
+        let n = self.n;
+        let weights = convergence::weights_at(factor_of(n));
+        let year = n.profile.smoothing_year() as usize;
+        let later = YEARS - year;
+        let l = series::ultimate_forward(n.ultimate);
+        let extension = Extension {
+            n,
+            l,
+            weights: &weights[..later],
+        };
+        extension.both(g, first_years(self.q, year))
     }
 }
 
-fn passed(plain: Curve, adjusts: bool, adjusted: Curve) -> Worked
-    ensures { (result.verdict ≡ Passed) × (result.curves.plain ≡ plain) × (result.curves.adjusts ≡ adjusts) × (result.curves.adjusted ≡ adjusted) }
+// 7 to 9 on the quotes that are used and their stretches, then the rest.
+pub fn from_numbers(n: Numbers) -> Result<Curves, Ground>
+    ensures { outcome_of as_curves result ≡ curves_of (as_numbers n) }
 {
-    Worked {
-        verdict: Verdict::Passed,
-        curves: Curves {
-            plain: plain,
-            adjusts: adjusts,
-            adjusted: adjusted,
-        },
-    }
-}
-
-// The plain curve first; then the adjusted one, where the sheet has an adjustment.
-fn both(
-    n: Numbers,
-    l: SignedPair,
-    g: Forwards,
-    klows: &[u64],
-    khighs: &[u64],
-    years: Years,
-) -> Worked
-    requires { Ready (as_numbers n) l g klows.now khighs.now years }
-    ensures outcome { as_outcome result.verdict (as_curves result.curves) ≡ curves_over (as_numbers n) g years }
-    ensures beside { as_curves result.curves ≡ result_or no_curves (curves_over (as_numbers n) g years) }
-    ensures unused { result.curves.adjusts ≡ false → as_curve result.curves.adjusted ≡ no_curve }
-{
-    let plain = extended(n, l, llfr_of(n, g), klows, khighs, years);
-    let verdict = plain.verdict;
-    let Verdict::Passed = verdict else {
-        return unworked(verdict);
-    };
-    let curve = plain.curve;
-    if !n.adjusts {
-        return passed(curve, false, no_curve());
-    }
-    let second = adjusted(n, l, g, klows, khighs, years);
-    let other = second.verdict;
-    let Verdict::Passed = other else {
-        return unworked(other);
-    };
-    let lowered = second.curve;
-    passed(curve, true, lowered)
-}
-
-// What both are extended with, beside the forwards: L, κ and the years to the smoothing year.
-fn from_forwards(n: Numbers, q: Liquid, g: Forwards) -> Worked
-    requires { WorkedQuotes (as_numbers n) q × (stretched (as_numbers n) ≡ done (forwards_in (as_numbers n) g)) × ForwardSizes logarithm_bound g }
-    ensures outcome { as_outcome result.verdict (as_curves result.curves) ≡ curves_of (as_numbers n) }
-    ensures beside { as_curves result.curves ≡ result_or no_curves (curves_of (as_numbers n)) }
-    ensures unused { result.curves.adjusts ≡ false → as_curve result.curves.adjusted ≡ no_curve }
-{
-    let l = series::ultimate_forward(n.ultimate);
-    let weights = convergence::weights_at(factor_of(n));
-    let klows = weights.lows;
-    let khighs = weights.highs;
-    let profile = n.profile;
-    let year = sheet::smoothing_year(profile) as usize;
-    let later = YEARS - year;
-    both(
-        n,
-        l,
-        g,
-        &klows[..later],
-        &khighs[..later],
-        first_years(q, year),
-    )
-}
-
-// 9 on the stretches, then the rest.
-fn from_quotes(n: Numbers, q: Liquid) -> Worked
-    requires { WorkedQuotes (as_numbers n) q }
-    ensures outcome { as_outcome result.verdict (as_curves result.curves) ≡ curves_of (as_numbers n) }
-    ensures beside { as_curves result.curves ≡ result_or no_curves (curves_of (as_numbers n)) }
-    ensures unused { result.curves.adjusts ≡ false → as_curve result.curves.adjusted ≡ no_curve }
-{
-    let stretched = forwards_of(n, q);
-    let verdict = stretched.verdict;
-    let Verdict::Passed = verdict else {
-        return unworked(verdict);
-    };
-    let g = stretched.forwards;
-    from_forwards(n, q, g)
-}
-
-// 7 to 9 on the quotes that are used, then the rest.
-pub fn from_numbers(n: Numbers) -> Worked
-    requires { NumbersInRange (as_numbers n) }
-    ensures outcome { as_outcome result.verdict (as_curves result.curves) ≡ curves_of (as_numbers n) }
-    ensures beside { as_curves result.curves ≡ result_or no_curves (curves_of (as_numbers n)) }
-    ensures unused { result.curves.adjusts ≡ false → as_curve result.curves.adjusted ≡ no_curve }
-{
-    let quotes = bootstrap::bootstrap(used_quotes::select(n));
-    let verdict = quotes.verdict;
-    let Verdict::Passed = verdict else {
-        return unworked(verdict);
-    };
-    let liquid = quotes.liquid;
-    from_quotes(n, liquid)
+    let q = bootstrap::bootstrap(used_quotes::select(n))?;
+    let worked = Worked { n, q };
+    let g = worked.forwards()?;
+    worked.curves(g)
 }

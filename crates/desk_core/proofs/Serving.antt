@@ -1,17 +1,21 @@
 -- The loop of a pass, record by record: the lines put so far, and then the pass over what is left.
-use Rattle.std.proofs.Common.{◌≡◌, ℕ, ◌+◌, ◌-◌, ◌%◌, ◌^◌, ◌<◌, ◌≤◌, Bool, false, List, [], ◌++◌, length, get_or, take, drop, sym, refl, ap, ◌∙◌}
+use Rattle.std.proofs.Common.{◌≡◌, ℕ, ◌+◌, ◌-◌, ◌%◌, ◌^◌, ◌<◌, ◌≤◌, List, [], ◌++◌, length, get_or, take, drop, sym, refl, ap, ◌∙◌}
 use Rattle.std.proofs.Common.{append_assoc, append-nil, add-zero, add_assoc, zero-add, arith, length-drop, length-take-le, drop-drop}
+use Rattle.std.specs.Prelude.{Option}
+use Rattle.std.specs.declared.option.Option.TheVariants.{None, Some}
+use Rattle.std.specs.declared.result.Result.TheVariants.{Ok, Err}
 use Rattle.ledger.specs.Book.{Book}
-use Rattle.book.specs.declared.Book.{Book as DeclaredBook}
+use Rattle.book.specs.declared.Book as code
 use Rattle.book.specs.Views.{as_book}
 use Rattle.journal.specs.Journal.{Front, whole, cut, unknown, desk_front}
 use Rattle.journal.specs.Replies as journal
 use Rattle.journal.specs.Replies.{reply_to, book_after}
 use Rattle.journal.specs.declared.Made.{Made}
+use Rattle.journal.specs.declared.NoCall.{NoCall}
 use Rattle.journal.specs.Made.{as_reply, MakesAtDesk}
+use Rattle.journal.proofs.Decoding.{lent, lent_rest, desk_takes}
 use Rattle.desk_core.specs.declared.Desk.{Desk as DeclaredDesk}
 use Rattle.desk_core.specs.declared.Served.{Served}
-use Rattle.desk_core.specs.declared.Passed.{Passed}
 use Rattle.desk_core.specs.Lines.{line_of}
 use Rattle.desk_core.specs.Desk.{Serving, stopping, behind, line_room, served_at, served_from, served, Desk, pass}
 use Rattle.desk_core.specs.Handed.{Puts, is_not_known, Serves, Waits, as_desk, Passes}
@@ -68,8 +72,9 @@ begins b held text =
 
 module _ {room : ℕ} {b : Book} {held : List ℕ} {a : Book} {taken : ℕ} {text : List ℕ} {written : ℕ} (p : Progress room b held a taken text written) where
   -- where no more is served
-  handed : (x : Bool) (d : DeclaredBook) → as_book d ≡ a → served_from p.most (room - written) a (drop taken held) ≡ stopping a x →
-      Serves (served room b held) text (record { book = d; taken = taken; written = written; unknown = x })
+  handed : (x : Option NoCall) (d : code.Book) → as_book d ≡ a →
+      served_from p.most (room - written) a (drop taken held) ≡ stopping a (is_not_known x) →
+      Serves (served room b held) text d (record { taken = taken; written = written; stop = x })
   handed x d e stopped =
       let all = p.so_far ∙ ap (behind taken (take written text)) stopped in
       let long = length-take-le written text (omega (arith, p.fits, p.same_length)) in
@@ -81,36 +86,45 @@ module _ {room : ℕ} {b : Book} {held : List ℕ} {a : Book} {taken : ℕ} {tex
         unknown = sym (ap (λ (r : Serving). r.unknown) all);
       }
 
-  pub ends_full : (d : DeclaredBook) → as_book d ≡ a → room - written < line_room →
-      Serves (served room b held) text (record { book = d; taken = taken; written = written; unknown = false })
-  ends_full d e h = handed false d e (full p.most (room - written) a (drop taken held) h)
+  pub ends_full : (d : code.Book) → as_book d ≡ a → room - written < line_room →
+      Serves (served room b held) text d (record { taken = taken; written = written; stop = None })
+  ends_full d e h = handed None d e (full p.most (room - written) a (drop taken held) h)
+
+module _ {room : ℕ} {b : Book} {held : List ℕ} (before : code.Book) {taken : ℕ} {text : List ℕ} {written : ℕ}
+    (p : Progress room b held (as_book before) taken text written) (k : line_room ≤ room - written) where
+  step : served_from p.most (room - written) (as_book before) (drop taken held)
+      ≡ served_at (desk_front (drop taken held)) (room - written) (as_book before) (drop taken held) (served_from (p.most - 1))
+  step = roomy p.most (room - written) (as_book before) (drop taken held) (omega (arith, p.enough, length-drop taken held)) k
+
+  -- no call was made
+  pub ends_here : (after : code.Book) (why : NoCall) → MakesAtDesk before after (lent held taken) (Err why) →
+      Serves (served room b held) text after (record { taken = taken; written = written; stop = Some why })
+  ends_here after why m =
+      let q = rw (lent_rest held taken) at m in
+      let stop =
+      stops_at (desk_front (drop taken held)) (room - written) (as_book before) (drop taken held) (served_from (p.most - 1)) refl (sym q.bytes) in
+      handed p (Some why) after (ap as_book q.kept) (step ∙ stop ∙ ap (stopping (as_book before)) (sym (unknown_by q)))
 
   -- the next record's call was made
-  module _ {r : Made} (q : MakesAtDesk a (drop taken held) r) (k : line_room ≤ room - written) where
-    abbrev next : Front
-    next = desk_front (drop taken held)
+  module _ (after : code.Book) (made : Made) (m : MakesAtDesk before after (lent held taken) (Ok made)) where
+    pub further : 0 < made.taken
+    further = desk_takes before after (lent held taken) made m
 
-    step : served_from p.most (room - written) a (drop taken held) ≡ served_at next (room - written) a (drop taken held) (served_from (p.most - 1))
-    step = roomy p.most (room - written) a (drop taken held) (omega (arith, p.enough, length-drop taken held)) k
-
-    pub ends_here : (d : DeclaredBook) {x : Bool} → as_book d ≡ a → x ≡ is_not_known r.reply → r.taken ≡ 0 →
-        Serves (served room b held) text (record { book = d; taken = taken; written = written; unknown = x })
-    ends_here d {x} e u z =
-        let stop = stops_at next (room - written) a (drop taken held) (served_from (p.most - 1)) refl (sym q.bytes ∙ z) in
-        handed x d e (step ∙ stop ∙ ap (stopping a) (sym (u ∙ unknown_by q)))
-
-    pub goes_on : {exit : List ℕ} {end : ℕ} → Puts (line_of (as_reply r.reply r.verdict r.month r.finding)) text written exit end →
-        length exit ≡ room → 0 < r.taken → Progress room b held (as_book r.book) (taken + r.taken) exit end
-    goes_on {exit} {end} puts l h =
+    pub goes_on : {exit : List ℕ} {end : ℕ} → Puts (line_of (as_reply made.reply)) text written exit end → length exit ≡ room →
+        Progress room b held (as_book after) (taken + made.taken) exit end
+    goes_on {exit} {end} puts l =
+        let a = as_book before in
+        let next = desk_front (drop taken held) in
+        let q = rw (lent_rest held taken) at m in
         let line = line_of (reply_to a next) in
         let put = rw q.reply at puts in
         let inside = taken-within (drop taken held) in
         let room-left : room - end ≡ room - written - length line = omega (arith, put.ends) in
-        let walked = goes_at next (room - written) a (drop taken held) (served_from (p.most - 1)) (omega (arith, q.bytes)) in
+        let walked = goes_at next (room - written) a (drop taken held) (served_from (p.most - 1)) (omega (arith, q.bytes, further)) in
         record {
           most = p.most - 1;
           within = omega (arith, p.within, q.bytes, inside, length-drop taken held);
-          enough = omega (arith, p.enough);
+          enough = omega (arith, p.enough, further);
           fits = omega (arith, put.ends, reply_short (reply_to a next));
           same_length = l;
           so_far =
@@ -119,18 +133,17 @@ module _ {room : ℕ} {b : Book} {held : List ℕ} {a : Book} {taken : ℕ} {tex
         }
 
 -- nothing taken and no unknown kind next: what is held is cut, so shorter than a record
-pub waits : (room : ℕ) (b : Book) (held : List ℕ) {text : List ℕ} {r : Served} → Serves (served room b held) text r →
-    get_or held 1 0 < 256 → get_or held 2 0 < 256 → Waits room held r.taken r.unknown
+pub waits : (room : ℕ) (b : Book) (held : List ℕ) {text : List ℕ} {d : code.Book} {r : Served} → Serves (served room b held) text d r →
+    get_or held 1 0 < 256 → get_or held 2 0 < 256 → Waits room held r.taken (is_not_known r.stop)
 waits room b held s h k roomy z x = cut_short held h k (takes_nothing room b held roomy (sym s.taken ∙ z) (sym s.unknown ∙ x))
 
 -- ---- the desk after a pass
 
 -- what was served, with the bytes behind it moved to the front of the block
-pub passes : (room : ℕ) (d : DeclaredDesk) (entry : List ℕ) {block text : List ℕ} {s : Served} {offset held : ℕ} → d.held ≤ length entry →
-    Serves (served room (as_book d.book) (take d.held entry)) text s → offset ≡ (d.offset + s.taken) % 2 ^ 64 →
+pub passes : (room : ℕ) (d : DeclaredDesk) (entry : List ℕ) {block text : List ℕ} {after : code.Book} {s : Served} {offset held : ℕ} →
+    d.held ≤ length entry → Serves (served room (as_book d.book) (take d.held entry)) text after s → offset ≡ (d.offset + s.taken) % 2 ^ 64 →
     (held ≡ d.held - s.taken) × (take held block ≡ drop s.taken (take d.held entry)) →
-    Passes room (as_desk d entry) block text
-    (record { desk = record { book = s.book; offset = offset; held = held }; taken = s.taken; written = s.written; unknown = s.unknown })
+    Passes room (as_desk d entry) block text (record { book = after; offset = offset; held = held }) s
 passes room d entry h s o m =
     let bytes = take d.held entry in
     let taken = (served room (as_book d.book) bytes).taken in
@@ -146,5 +159,5 @@ passes room d entry h s o m =
     }
 
 -- no more is held than before
-pub left_within : {room : ℕ} {d : Desk} {block text : List ℕ} {r : Passed} → Passes room d block text r → r.desk.held ≤ length d.held
+pub left_within : {room : ℕ} {d : Desk} {block text : List ℕ} {e : DeclaredDesk} {r : Served} → Passes room d block text e r → e.held ≤ length d.held
 left_within {room} {d} p = omega (arith, p.count, length-drop (pass room d).taken d.held)

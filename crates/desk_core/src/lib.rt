@@ -3,14 +3,14 @@
 
 mod lines;
 
-ghost use Rattle.std.specs.Prelude.{◌≡◌, ◌+◌, ◌-◌, ◌<◌, ◌≤◌, min, length, take, drop, IfOk};
+ghost use Rattle.std.specs.Prelude.{◌≡◌, ◌+◌, ◌-◌, ◌<◌, ◌≤◌, min, length, take, drop, IfOk, OnErr};
 ghost use Rattle.book.specs.Views.{as_book};
 ghost use Rattle.desk_core.specs.Lines.{broken_line};
 ghost use Rattle.desk_core.specs.Desk.{line_room, served};
-ghost use Rattle.desk_core.specs.Handed.{Puts, asked_line, is_not_known, Serves, Waits, as_desk, Opens, Passes, most_read, Reads};
+ghost use Rattle.desk_core.specs.Handed.{is_not_known, Serves, Waits, as_desk, Opens, Passes, most_read, Reads};
 
 use book::Book;
-use journal::{Asked, Reply};
+use journal::NoCall;
 use lines::{put_line, put_reply};
 use std::io;
 use std::io::{Read, Write};
@@ -30,86 +30,41 @@ struct Desk {
     held: usize,
 }
 
-// The book after the whole records at the front of the bytes held, how many bytes they take and how many their lines have; whether
-// an unknown kind is next.
+// The whole records at the front of the bytes held: how many bytes they take and how many their lines have; and why no more were
+// served, if not for want of room.
 #[derive(Clone, Copy)]
 struct Served {
-    book: Book,
     taken: usize,
     written: usize,
-    unknown: bool,
-}
-
-// The desk after a pass, and the rest of what it served.
-#[derive(Clone, Copy)]
-struct Passed {
-    desk: Desk,
-    taken: usize,
-    written: usize,
-    unknown: bool,
-}
-
-fn not_known(reply: Reply) -> bool
-    ensures { result ≡ is_not_known reply }
-{
-    match reply {
-        Reply::Posted => false,
-        Reply::Turned => false,
-        Reply::Withdrawn => false,
-        Reply::Looked(_) => false,
-        Reply::CutShort => false,
-        Reply::NotKnown => true,
-    }
-}
-
-// The line of a look-up that was asked.
-fn put_asked(asked: Asked, text: &mut [u8], at: usize) -> usize
-    requires { at + line_room ≤ length text.old }
-    ensures { Puts (asked_line asked) text.old at text.new result }
-{
-    let verdict = asked.verdict;
-    let found = asked.finding;
-    put_reply(Reply::Looked(asked.year), verdict, 0, found, text, at)
+    stop: Option<NoCall>,
 }
 
 // Makes the calls of the whole records at the front of what is held and puts their lines, while the text has room for one line more.
-// Look-ups are asked, which copies no book.
-fn serve_held(book: Book, held: &[u8], text: &mut [u8]) -> Served
-    ensures pass { Serves (served (length text.old) (as_book book) held.now) text.new result }
-    ensures waits { Waits (length text.old) held.now result.taken result.unknown }
+fn serve_held(book: &mut Book, held: &[u8], text: &mut [u8]) -> Served
+    ensures pass { Serves (served (length text.old) (as_book book.old) held.now) text.new book.new result }
+    ensures waits { Waits (length text.old) held.now result.taken (is_not_known result.stop) }
 {
-    let mut after = book;
     let mut taken: usize = 0;
     let mut written: usize = 0;
     while LINE_ROOM <= text.len() - written {
-        let asked = journal::ask(after, &held[taken..]);
-        if asked.is_look {
-            written = put_asked(asked, text, written);
-            taken += 2;
-        } else {
-            let made = journal::make_at_desk(after, &held[taken..]);
-            let n = made.taken;
-            let reply = made.reply;
-            if n == 0 {
+        match journal::make_at_desk(book, &held[taken..]) {
+            Ok(made) => {
+                written = put_reply(made.reply, text, written);
+                taken += made.taken;
+            }
+            Err(why) => {
                 return Served {
-                    book: after,
-                    taken: taken,
-                    written: written,
-                    unknown: not_known(reply),
+                    taken,
+                    written,
+                    stop: Some(why),
                 };
             }
-            let verdict = made.verdict;
-            let found = made.finding;
-            written = put_reply(reply, verdict, made.month, found, text, written);
-            after = made.book;
-            taken += n;
         }
     }
     Served {
-        book: after,
-        taken: taken,
-        written: written,
-        unknown: false,
+        taken,
+        written,
+        stop: None,
     }
 }
 
@@ -124,43 +79,46 @@ fn move_down(bytes: &mut [u8], from: usize, to: usize) -> usize
     if from == 0 {
         return to;
     }
-    let mut i: usize = 0;
-    while i < to - from {
-        bytes[i] = bytes[from + i];
-        i += 1;
-    }
-    i
+    bytes.copy_within(from..to, 0);
+    to - from
 }
 
-fn opened() -> Desk
-    ensures { Opens result }
-{
-    Desk {
-        book: book::fresh(book::LARGEST_AGE_LIMIT),
-        offset: 0,
-        held: 0,
+impl Desk {
+    fn opened() -> Desk
+        ensures { Opens result }
+    {
+        Desk {
+            book: Book::fresh(book::LARGEST_AGE_LIMIT),
+            offset: 0,
+            held: 0,
+        }
     }
-}
 
-// Serves what is held, and holds what is left of it.
-fn pass(desk: Desk, block: &mut [u8], text: &mut [u8]) -> Passed
-    requires { desk.held ≤ length block.old }
-    ensures pass { Passes (length text.old) (as_desk desk block.old) block.new text.new result }
-    ensures waits { Waits (length text.old) (take desk.held block.old) result.taken result.unknown }
-{
-    let held = desk.held;
-    let served = serve_held(desk.book, &block[..held], text);
-    let taken = served.taken;
-    let after = served.book;
-    Passed {
-        desk: Desk {
-            book: after,
-            offset: std::num::wrapping_add_u64(desk.offset, taken as u64),
-            held: move_down(block, taken, held),
-        },
-        taken: taken,
-        written: served.written,
-        unknown: served.unknown,
+    // Serves what is held, and holds what is left of it.
+    fn pass(&mut self, block: &mut [u8], text: &mut [u8]) -> Served
+        requires { self.old.held ≤ length block.old }
+        ensures pass { Passes (length text.old) (as_desk self.old block.old) block.new text.new self.new result }
+        ensures waits { Waits (length text.old) (take self.old.held block.old) result.taken (is_not_known result.stop) }
+    {
+        let held = self.held;
+        let served = serve_held(&mut self.book, &block[..held], text);
+        self.offset = self.offset.wrapping_add(served.taken as u64);
+        self.held = move_down(block, served.taken, held);
+        served
+    }
+
+    // One read behind the bytes that are held, and how many bytes it put. These stay, also where the read fails.
+    fn read_more<R: Read>(&mut self, input: &mut R, block: &mut [u8]) -> io::Result<usize>
+        requires { self.old.held < length block.old }
+        ensures read { IfOk result (λ n. Reads self.old block.old block.new n self.new) }
+        ensures held { take self.old.held block.new ≡ take self.old.held block.old }
+        ensures failed { OnErr result (self.new ≡ self.old) }
+    {
+        let held = self.held;
+        let end = read_end(held, block.len());
+        let got = read_into(input, &mut block[held..end])?;
+        self.held = held + got;
+        Ok(got)
     }
 }
 
@@ -179,23 +137,7 @@ fn read_end(held: usize, size: usize) -> usize
     requires { held ≤ size }
     ensures { result ≡ min (held + most_read) size }
 {
-    if MOST_READ < size - held {
-        return held + MOST_READ;
-    }
-    size
-}
-
-// One read behind the bytes that are held. These stay, also where the read fails.
-fn read_more<R: Read>(input: &mut R, desk: Desk, block: &mut [u8]) -> io::Result<Desk>
-    requires { desk.held < length block.old }
-    ensures read { IfOk result (λ r. Reads desk block.old block.new r) }
-    ensures held { take desk.held block.new ≡ take desk.held block.old }
-{
-    let held = desk.held;
-    let end = read_end(held, block.len());
-    let mut next = desk;
-    next.held = held + read_into(input, &mut block[held..end])?;
-    Ok(next)
+    held + (size - held).min(MOST_READ)
 }
 
 fn write_broken<W: Write>(output: &mut W, offset: u64, text: &mut [u8]) -> io::Result<()>
@@ -207,35 +149,25 @@ fn write_broken<W: Write>(output: &mut W, offset: u64, text: &mut [u8]) -> io::R
 }
 
 // Serves the input to its end, or to an unknown kind, as `printed_in` says. A proved loop has to end, and nothing says that the input
-// does: so the passes are counted down, from a number that no run uses up. A read or a write that fails ends it, with its error.
+// does: so the passes are counted, up to a number that no run reaches. A read or a write that fails ends it, with its error.
 pub fn serve<R: Read, W: Write>(input: &mut R, output: &mut W) -> io::Result<()> {
     // The longest record fits: while none is whole, there is room to read.
     let mut block_space = [0u8; 65_538];
     let block: &mut [u8] = &mut block_space;
     let mut text_space = [0u8; 4_096];
     let text: &mut [u8] = &mut text_space;
-    let mut desk = opened();
-    let mut passes = u64::MAX;
-    while 0 < passes {
-        passes -= 1;
-        let passed = pass(desk, block, text);
-        let written = passed.written;
-        output.write_all(&text[..written])?;
-        let left = passed.desk;
-        let offset = left.offset;
-        let held = left.held;
-        desk = left;
-        if passed.unknown {
-            return write_broken(output, offset, text);
+    let mut desk = Desk::opened();
+    for _ in 0..u64::MAX {
+        let served = desk.pass(block, text);
+        output.write_all(&text[..served.written])?;
+        if served.stop == Some(NoCall::NotKnown) {
+            return write_broken(output, desk.offset, text);
         }
-        if passed.taken == 0 {
-            desk = read_more(input, left, block)?;
-            if desk.held == held {
-                if 0 < held {
-                    return write_broken(output, offset, text);
-                }
-                return Ok(());
+        if served.taken == 0 && desk.read_more(input, block)? == 0 {
+            if 0 < desk.held {
+                return write_broken(output, desk.offset, text);
             }
+            return Ok(());
         }
     }
     Ok(())

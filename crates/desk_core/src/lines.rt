@@ -1,12 +1,11 @@
 // Lines put into a text, each function behind what is written so far; it gives the new end.
 ghost use Rattle.std.specs.Prelude.{◌+◌, ◌≤◌, ◌∷◌, length};
-ghost use Rattle.grounds.specs.Verdicts.{as_outcome};
+ghost use Rattle.grounds.specs.Answers.{as_ground};
 ghost use Rattle.journal.specs.Made.{as_reply};
-ghost use Rattle.desk_core.specs.Lines.{decimal, spaced, line, answer_line, line_of};
-ghost use Rattle.desk_core.specs.Handed.{Puts};
+ghost use Rattle.desk_core.specs.Lines.{decimal, spaced, line, line_of};
+ghost use Rattle.desk_core.specs.Handed.{Puts, refusal_line};
 
-use book::Finding;
-use grounds::Verdict;
+use grounds::Ground;
 use journal::Reply;
 
 fn put(bytes: &[u8], text: &mut [u8], at: usize) -> usize
@@ -33,10 +32,8 @@ fn put_numbers(numbers: &[u64], text: &mut [u8], at: usize) -> usize
     ensures { Puts (spaced numbers.now) text.old at text.new result }
 {
     let mut end = at;
-    let mut i: usize = 0;
-    while i < numbers.len() {
-        end = put_number(numbers[i], text, end);
-        i += 1;
+    for n in numbers {
+        end = put_number(*n, text, end);
     }
     end
 }
@@ -50,45 +47,30 @@ pub(crate) fn put_line(letter: u8, numbers: &[u64], text: &mut [u8], at: usize) 
     put(b"\n", text, last)
 }
 
-// The line of an accepted call, or of its refusal.
-fn put_answer(letter: u8, numbers: &[u64], verdict: Verdict, text: &mut [u8], at: usize) -> usize
-    requires { at + length (answer_line letter (as_outcome verdict numbers.now)) ≤ length text.old }
-    ensures { Puts (answer_line letter (as_outcome verdict numbers.now)) text.old at text.new result }
+fn put_refusal(g: Ground, text: &mut [u8], at: usize) -> usize
+    requires { at + length (refusal_line (as_ground g)) ≤ length text.old }
+    ensures { Puts (refusal_line (as_ground g)) text.old at text.new result }
 {
-    let Verdict::Passed = verdict else {
-        return put_line(
-            b'R',
-            &[grounds::number(verdict), grounds::place(verdict)],
-            text,
-            at,
-        );
-    };
-    put_line(letter, numbers, text, at)
+    put_line(b'R', &[g.number(), g.place()], text, at)
 }
 
-pub(crate) fn put_reply(
-    reply: Reply,
-    verdict: Verdict,
-    month: u64,
-    found: Finding,
-    text: &mut [u8],
-    at: usize,
-) -> usize
-    requires { at + length (line_of (as_reply reply verdict month found)) ≤ length text.old }
-    ensures { Puts (line_of (as_reply reply verdict month found)) text.old at text.new result }
+// A call's line; none of a withdrawal.
+pub(crate) fn put_reply(reply: Reply, text: &mut [u8], at: usize) -> usize
+    requires { at + length (line_of (as_reply reply)) ≤ length text.old }
+    ensures { Puts (line_of (as_reply reply)) text.old at text.new result }
 {
     match reply {
-        Reply::Posted => put_answer(b'P', &[month], verdict, text, at),
-        Reply::Turned => put_answer(b'M', &[month], verdict, text, at),
-        Reply::Looked(year) => put_answer(
+        Reply::Posted(Ok(month)) => put_line(b'P', &[month], text, at),
+        Reply::Turned(Ok(month)) => put_line(b'M', &[month], text, at),
+        Reply::Looked(year, Ok(found)) => put_line(
             b'L',
             &[year, found.low, found.high, found.month, found.age],
-            verdict,
             text,
             at,
         ),
-        Reply::Withdrawn => at,
-        Reply::CutShort => at,
-        Reply::NotKnown => at,
+        Reply::Posted(Err(g)) => put_refusal(g, text, at),
+        Reply::Turned(Err(g)) => put_refusal(g, text, at),
+        Reply::Looked(_, Err(g)) => put_refusal(g, text, at),
+        Reply::Withdrawn(_) => at,
     }
 }

@@ -1,11 +1,11 @@
 -- LLFR and the year's forward, built of their two ends; the sizes are by the laws of the crate method.
 use mathlib.Core.Path.{◌≡◌, refl, subst⁻¹, ◌∙◌}
 use mathlib.Core.Bool.{Bool, true, false, beq, cond}
-use mathlib.Core.List.{List}
+use mathlib.Core.List.{List, map}
 use Prim.Native.Nat.{ℕ, ◌*◌, ◌^◌, ◌≤◌, ◌<◌}
-use native.Mathlib.Omega.{arith}
 use lib.IntN.{ℤ, pos, nat_abs}
-use lib.ListN.{length}
+use lib.ListN.{length, get_or, length-map, get_or-map}
+use Rattle.std.proofs.lemmas.Simd.{map-map}
 use lib.Signed.{mag, le_z}
 use Rattle.fraction.specs.Rounding.{U, round_ℤ}
 use Rattle.method.specs.Units as method
@@ -15,12 +15,11 @@ use Rattle.method.specs.Sheet.{total}
 use Rattle.method.specs.Extrapolation.{llfr_numerator, llfr, blend, forward}
 use Rattle.method.proofs.Size.{Within}
 use Rattle.method.proofs.Forward.{llfr_bound_at, forward_bound_lem}
-use Rattle.method.proofs.Zips.{zip_length, zip_at, zip_left, zip_right}
 use Rattle.rounding.specs.Pairs.{as_signed_pair, SizeAtMost}
-use Rattle.rounding.specs.declared.SignedPair.{SignedPair}
+use Rattle.rounding.specs.Pairs.{SignedPair}
 use Rattle.rounding.proofs.Machine.{stored, stored_is, returned}
-use Rattle.extrapolation.specs.declared.Forwards.{Forwards}
-use Rattle.extrapolation.specs.Extrapolated.{as_forwards, outer, ForwardSizes, WeightRange}
+use Rattle.extrapolation.specs.Extrapolated.{Forwards}
+use Rattle.extrapolation.specs.Extrapolated.{as_forwards, no_forward, signed_end, outer, ForwardSizes, WeightRange}
 
 -- ---- a pair's size, as the code and as the method have it
 
@@ -44,23 +43,25 @@ ends_read F l f hl hf e h = returned (rw (stored_is l hl tt, stored_is f hf tt) 
 
 -- ---- LLFR
 
-module _ (vs : List ℕ) (g : Forwards) (hv : length vs ≡ 5) (hl : length g.lows ≡ 5) (hh : length g.highs ≡ 5) where
-  same : length g.lows ≡ length g.highs
-  same = omega arith
+-- of either end
+pub ends_sized : (up : Bool) (g : Forwards) {M : ℕ} → ForwardSizes M g → (i : ℕ) → nat_abs (get_or (map (signed_end up) g) i (pos 0)) ≤ M
+ends_sized true g b i = rw (get_or-map (signed_end true) g i no_forward) (b.sizes i).high_size
+ends_sized false g b i = rw (get_or-map (signed_end false) g i no_forward) (b.sizes i).low_size
 
+module _ (vs : List ℕ) (g : Forwards) (hv : length vs ≡ 5) (hg : length g ≡ 5) where
   llfr-within : 0 < total vs → ForwardSizes forward_bound g → Within forward_bound (llfr vs (as_forwards g))
   llfr-within h b =
-      llfr_bound_at vs (as_forwards g) hv (zip_length signed_pair g.lows g.highs same ∙ hl) h
-      (λ i k. rw (zip_at signed_pair g.lows g.highs i (pos 0) (pos 0) same)
-      (record { low_within = record { bound = b.low_sizes i }; high_within = record { bound = b.high_sizes i } }))
+      llfr_bound_at vs (as_forwards g) hv (length-map g as_signed_pair ∙ hg) h
+      (λ i k. rw (get_or-map as_signed_pair g i no_forward) (within (get_or g i no_forward) (b.sizes i)))
 
   pub llfr_is : 0 < total vs → ForwardSizes forward_bound g → (r : SignedPair) →
-      r.low ≡ round_ℤ false (llfr_numerator vs g.lows) (12 * total vs) → r.high ≡ round_ℤ true (llfr_numerator vs g.highs) (12 * total vs) →
+      r.low ≡ round_ℤ false (llfr_numerator vs (map (signed_end false) g)) (12 * total vs) →
+      r.high ≡ round_ℤ true (llfr_numerator vs (map (signed_end true) g)) (12 * total vs) →
       (as_signed_pair r ≡ llfr vs (as_forwards g)) × SizeAtMost forward_bound r
   unfolding llfr
   llfr_is h b r low high =
-      let lows = zip_left signed_pair (λ p. p.low) (λ a b. refl) g.lows g.highs same in
-      let highs = zip_right signed_pair (λ p. p.high) (λ a b. refl) g.lows g.highs same in
+      let lows = map-map (λ (p : method.SignedPair). p.low) as_signed_pair g in
+      let highs = map-map (λ (p : method.SignedPair). p.high) as_signed_pair g in
       let e : as_signed_pair r ≡ llfr vs (as_forwards g) = rw (lows, highs, low, high) in
       (e, sized r e (llfr-within h b))
 

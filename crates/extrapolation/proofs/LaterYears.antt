@@ -8,35 +8,21 @@ use borrow.Author.Count.{below_more}
 use lib.ListN.{length, get_or, take, drop, set, length-set, length-drop, drop_of_length-le}
 use lib.Seq.{take_all, take-set-le, take-suc-set, drop-cons, drop-set-add, get_or-set_same, get_or-set_other}
 use lib.Signed.{◌≤ℤ◌}
-use Rattle.method.specs.Units.{Pair, pair, pairs_of, SignedPair}
+use Rattle.method.specs.Units.{Pair, pair, SignedPair}
 use Rattle.method.specs.Grounds.{high_above_limit, Outcome, refused, done}
 use Rattle.method.specs.Quotes.{highest_factor}
 use Rattle.method.specs.Extrapolation.{forward, step, extrapolate}
 use Rattle.method.proofs.ExtrapolationLaws as laws
 use Rattle.method.proofs.ExtrapolationLaws.{after, after_none, after-after, step_ordered, forward_ordered}
-use Rattle.method.proofs.Zips.{zip_set, zip_length, zip_at}
-use Rattle.grounds.specs.declared.Ground.{Ground}
-use Rattle.grounds.specs.declared.Verdict.TheVariants.{Passed, Refused}
-use Rattle.extrapolation.specs.declared.Years.{Years}
+use Rattle.method.proofs.Zips.{zip_set, zip_length}
+use Rattle.extrapolation.specs.Extrapolated.{Years}
 use Rattle.extrapolation.specs.Extrapolated.{as_years, factor_at, InRange, Ahead, Kept}
-
--- ---- beside the outcome
-
-not_both : {g : Ground} → Passed ≡ Refused g → ⊥
-not_both e = let z : ◌≡◌ {A = ℕ} 0 1 = cc in omega arith
-
-pub kept_refused : (start : ℕ) (y : Years) (g : Ground) → Kept start y (record { verdict = Refused g; years = y })
-kept_refused start y g =
-    record { quoted_lows = refl; quoted_highs = refl; worked_in_range = λ e. absurd (not_both (sym e)); refused_as_came = λ g e. refl }
 
 -- ---- a year
 
-module _ (l f : SignedPair) (klows khighs : List ℕ) (start : ℕ) where
-  abbrev κs : List Pair
-  κs = pairs_of klows khighs
-
+module _ (l f : SignedPair) (κs : List Pair) (start : ℕ) where
   abbrev pub κ : ℕ → Pair
-  κ i = pair (get_or klows i 0) (get_or khighs i 0)
+  κ i = get_or κs i (pair 0 0)
 
   -- the year of index start + i after p
   abbrev pub next : ℕ → Pair → Pair
@@ -52,7 +38,7 @@ module _ (l f : SignedPair) (klows khighs : List ℕ) (start : ℕ) where
   written y i = take i (drop start (as_years y))
 
   pub record Reached (came y : Years) (p : Pair) (i : ℕ) : Type 0 where
-    pub turns : i ≤ length klows
+    pub turns : i ≤ length κs
     pub lows_length : length y.lows ≡ 150
     pub highs_length : length y.highs ≡ 150
     pub quoted_lows : take start y.lows ≡ take start came.lows
@@ -81,32 +67,26 @@ module _ (l f : SignedPair) (klows khighs : List ℕ) (start : ℕ) where
 
 -- ---- one year, where κ reaches to the last
 
-module _ (l f : SignedPair) {klows khighs : List ℕ} {start : ℕ} (ahead : Ahead klows khighs start) where
-  abbrev pairs : List Pair
-  pairs = pairs_of klows khighs
-
-  pairs_length : length pairs ≡ length klows
-  pairs_length = zip_length pair klows khighs (sym ahead.as_many)
-
-  module _ (i : ℕ) (h : i < length klows) (p : Pair) where
+module _ (l f : SignedPair) {κs : List Pair} {start : ℕ} (ahead : Ahead κs start) where
+  module _ (i : ℕ) (h : i < length κs) (p : Pair) where
     abbrev others : List Pair
-    others = drop (suc i) pairs
+    others = drop (suc i) κs
 
     abbrev weight : Pair
-    weight = κ l f klows khighs start i
+    weight = κ l f κs start i
 
     abbrev here : Pair
-    here = next l f klows khighs start i p
+    here = next l f κs start i p
 
-    cut : drop i pairs ≡ weight ∷ others
-    cut = rw (drop-cons pairs i (pair 0 0) (rw pairs_length h), zip_at pair klows khighs i 0 0 (sym ahead.as_many))
+    cut : drop i κs ≡ weight ∷ others
+    cut = drop-cons κs i (pair 0 0) h
 
-    year_worked : here.high ≤ highest_factor → left l f klows khighs start i p ≡ after (here ∷ []) (left l f klows khighs start (i + 1) here)
+    year_worked : here.high ≤ highest_factor → left l f κs start i p ≡ after (here ∷ []) (left l f κs start (i + 1) here)
     year_worked m =
         let n : start + (i + 1) + 1 ≡ start + i + 1 + 1 = omega arith in
         rw (cut, n, add-one i) (laws.year_worked l f weight others (start + i + 1) p m)
 
-    year_refused : highest_factor < here.high → left l f klows khighs start i p ≡ refused (high_above_limit (start + i + 1))
+    year_refused : highest_factor < here.high → left l f κs start i p ≡ refused (high_above_limit (start + i + 1))
     year_refused m = rw cut (laws.year_refused l f weight others (start + i + 1) p m)
 
     next_ordered : l.low ≤ℤ l.high → f.low ≤ℤ f.high → p.low ≤ p.high → here.low ≤ here.high
@@ -114,42 +94,41 @@ module _ (l f : SignedPair) {klows khighs : List ℕ} {start : ℕ} (ahead : Ahe
         let w = ahead.ranges i h in
         step_ordered (forward l f weight) p (forward_ordered l f weight w.ordered w.at_most_U ol of) op
 
-  none_left : (i : ℕ) → length klows ≤ i → (p : Pair) → left l f klows khighs start i p ≡ done []
-  none_left i h p = rw (drop_of_length-le pairs {i = i} (rw pairs_length h)) (laws.no_year_lem l f (start + i + 1) p)
+  none_left : (i : ℕ) → length κs ≤ i → (p : Pair) → left l f κs start i p ≡ done []
+  none_left i h p = rw (drop_of_length-le κs {i = i} h) (laws.no_year_lem l f (start + i + 1) p)
 
-module _ {l f : SignedPair} {klows khighs : List ℕ} {start : ℕ} (ahead : Ahead klows khighs start) {came y : Years} {p : Pair} {i : ℕ}
-    (d : Reached l f klows khighs start came y p i) where
+module _ {l f : SignedPair} {κs : List Pair} {start : ℕ} (ahead : Ahead κs start) {came y : Years} {p : Pair} {i : ℕ}
+    (d : Reached l f κs start came y p i) where
   abbrev whole : Outcome (List Pair)
-  whole = extrapolate l f (pairs_of klows khighs) (start + 1) (factor_at came (start - 1))
+  whole = extrapolate l f κs (start + 1) (factor_at came (start - 1))
 
-  years_length : length (drop start (as_years y)) ≡ length klows
+  years_length : length (drop start (as_years y)) ≡ length κs
   years_length = rw (length-drop start (as_years y), zip_length pair y.lows y.highs (omega arith), d.lows_length) (omega arith)
 
-  pub at_refusal : {q : Pair} → i < length klows → q ≡ next l f klows khighs start i p → highest_factor < q.high →
+  pub at_refusal : {q : Pair} → i < length κs → q ≡ next l f κs start i p → highest_factor < q.high →
       whole ≡ refused (high_above_limit (start + i + 1))
   at_refusal h e m =
-      whole_is l f klows khighs start came
+      whole_is l f κs start came
       ∙ d.whole
-      ∙ ap (after (written l f klows khighs start y i)) (year_refused l f ahead i h p (rw (← e) m))
+      ∙ ap (after (written l f κs start y i)) (year_refused l f ahead i h p (rw (← e) m))
 
-  pub at_end_lem : length klows ≤ i → whole ≡ done (drop start (as_years y))
+  pub at_end_lem : length κs ≤ i → whole ≡ done (drop start (as_years y))
   at_end_lem h =
-      whole_is l f klows khighs start came
+      whole_is l f κs start came
       ∙ d.whole
       ∙ rw (none_left l f ahead i h p, take_all i (drop start (as_years y)) (rw years_length h))
       (ap done (append-nil (drop start (as_years y))))
 
-  pub kept_worked : length klows ≤ i → Kept start came (record { verdict = Passed; years = y })
+  pub kept_worked : length κs ≤ i → Kept start came y
   kept_worked h =
       record {
         quoted_lows = d.quoted_lows;
         quoted_highs = d.quoted_highs;
-        worked_in_range = λ e j a b. d.in_range j (omega arith) a;
-        refused_as_came = λ g e. absurd (not_both e);
+        worked_in_range = λ j a b. d.in_range j (omega arith) a;
       }
 
   -- the year is worked, and written
-  module _ {q : Pair} (h : i < length klows) (e : q ≡ next l f klows khighs start i p) (m : q.high ≤ highest_factor)
+  module _ {q : Pair} (h : i < length κs) (e : q ≡ next l f κs start i p) (m : q.high ≤ highest_factor)
       (ol : l.low ≤ℤ l.high) (of : f.low ≤ℤ f.high) where
     abbrev later : Years
     later = record { lows = set y.lows (start + i) q.low; highs = set y.highs (start + i) q.high }
@@ -167,15 +146,15 @@ module _ {l f : SignedPair} {klows khighs : List ℕ} {start : ℕ} (ahead : Ahe
           get_or-set_other y.highs (start + i) j q.high 0 (λ e. omega arith),
         )
 
-    one_more : written l f klows khighs start later (i + 1) ≡ written l f klows khighs start y i ++ (q ∷ [])
+    one_more : written l f κs start later (i + 1) ≡ written l f κs start y i ++ (q ∷ [])
     one_more =
         rw (zip_set pair y.lows y.highs (start + i) q.low q.high, drop-set-add start (as_years y) i q, add-one)
         (take-suc-set (drop start (as_years y)) i q (rw years_length h))
 
-    pub after_year : Reached l f klows khighs start came later q (i + 1)
+    pub after_year : Reached l f κs start came later q (i + 1)
     after_year =
-        let before = written l f klows khighs start y i in
-        let here = next l f klows khighs start i p in
+        let before = written l f κs start y i in
+        let here = next l f κs start i p in
         record {
           turns = omega arith;
           lows_length = simp length-set d.lows_length;
@@ -192,6 +171,6 @@ module _ {l f : SignedPair} {klows khighs : List ℕ} {start : ℕ} (ahead : Ahe
           whole =
               d.whole
               ∙ ap (after before) (year_worked l f ahead i h p (rw (← e) m))
-              ∙ after-after before (here ∷ []) (left l f klows khighs start (i + 1) here)
+              ∙ after-after before (here ∷ []) (left l f κs start (i + 1) here)
               ∙ rw (one_more, e);
         }

@@ -1,39 +1,45 @@
 -- What the contracts cite beside the definitions of the crate method.
-use Rattle.std.specs.Prelude.{◌≡◌, Bool, true, false, not, ℕ, suc, ◌+◌, ◌-◌, ◌≤◌, ◌<◌, ℤ, pos, negsuc, nat_abs, length, get_or, take, drop, ◌≤ℤ◌}
-use mathlib.Core.List.{List, zip_with}
+use Rattle.std.specs.Prelude.{◌≡◌, Bool, true, false, not, ℕ, suc, ◌+◌, ◌-◌, ◌≤◌, ◌<◌, ℤ, pos, negsuc, length, get_or, take, drop, ◌≤ℤ◌, Result}
+use mathlib.Core.List.{List, map}
 use Rattle.fraction.specs.Rounding.{U}
 use Rattle.method.specs.Units as method
-use Rattle.method.specs.Units.{pair, signed_pair, pairs_of}
-use Rattle.method.specs.Grounds.{Outcome}
+use Rattle.method.specs.Units.{pair, pairs_of}
 use Rattle.method.specs.Quotes.{highest_factor}
 use Rattle.method.specs.Ranges.{forward_bound, growth_bound}
 use Rattle.method.specs.Extrapolation.{smaller, larger, step_low, step_high, extrapolate}
 use Rattle.series.specs.Sides.{growth_by}
 use Rattle.rounding.specs.Pairs.{as_signed_pair, SizeAtMost}
-use Rattle.rounding.specs.declared.SignedPair.{SignedPair}
-use Rattle.grounds.specs.Verdicts.{as_outcome}
+use Rattle.rounding.specs.Pairs.{SignedPair}
 use Rattle.grounds.specs.declared.Ground.{Ground}
-use Rattle.grounds.specs.declared.Verdict.TheVariants.{Passed, Refused}
-use Rattle.extrapolation.specs.declared.Forwards.{Forwards}
-use Rattle.extrapolation.specs.declared.Years.{Years}
-use Rattle.extrapolation.specs.declared.Extended.{Extended}
+use Rattle.grounds.specs.Answers.{outcome_of}
+use Rattle.rounding.specs.declared.Pairs.{Pairs}
 
 -- ---- the declared types, as the definitions have them
 
+abbrev pub Forwards : Type 0
+Forwards = List SignedPair
+
+abbrev pub Years : Type 0
+Years = Pairs ℕ 150
+
 abbrev pub as_forwards : Forwards → List method.SignedPair
-as_forwards g = zip_with signed_pair g.lows g.highs
+as_forwards g = map as_signed_pair g
 
 abbrev pub as_years : Years → List method.Pair
 as_years y = pairs_of y.lows y.highs
 
 -- the years from an index on
-abbrev pub as_later : ℕ → Extended → Outcome (List method.Pair)
-as_later start r = as_outcome r.verdict (drop start (as_years r.years))
+abbrev pub later_years : ℕ → Years → List method.Pair
+later_years start y = drop start (as_years y)
 
 abbrev pub factor_at : Years → ℕ → method.Pair
 factor_at y i = pair (get_or y.lows i 0) (get_or y.highs i 0)
 
 -- ---- an end by its side: the high with `true`, the low with `false`
+
+abbrev pub signed_end : Bool → SignedPair → ℤ
+signed_end true f = f.high
+signed_end false f = f.low
 
 -- the larger of two, or the smaller
 abbrev pub outer : Bool → ℤ → ℤ → ℤ
@@ -64,10 +70,13 @@ step_range = 2_500_000_000
 abbrev pub volume_bound : ℕ
 volume_bound = 1_000_000
 
--- at every index; past the end stands 0
+-- what stands past the end of an array of forwards
+abbrev pub no_forward : SignedPair
+no_forward = record { low = pos 0; high = pos 0 }
+
+-- at every index
 pub record ForwardSizes (M : ℕ) (g : Forwards) : Type 0 where
-  pub low_sizes : (i : ℕ) → nat_abs (get_or g.lows i (pos 0)) ≤ M
-  pub high_sizes : (i : ℕ) → nat_abs (get_or g.highs i (pos 0)) ≤ M
+  pub sizes : (i : ℕ) → SizeAtMost M (get_or g i no_forward)
 
 -- a factor that passes ground 8; an extrapolated low may be 0
 pub record InRange (p : method.Pair) : Type 0 where
@@ -85,22 +94,20 @@ pub record WeightRange (κ : method.Pair) : Type 0 where
   pub at_most_U : κ.high ≤ U
 
 -- κ's pairs, one for each year from an index on to 150
-pub record Ahead (klows khighs : List ℕ) (start : ℕ) : Type 0 where
+pub record Ahead (κs : List method.Pair) (start : ℕ) : Type 0 where
   pub started : 1 ≤ start
-  pub to_150 : start + length klows ≡ 150
-  pub as_many : length khighs ≡ length klows
-  pub ranges : (i : ℕ) → i < length klows → WeightRange (pair (get_or klows i 0) (get_or khighs i 0))
+  pub to_150 : start + length κs ≡ 150
+  pub ranges : (i : ℕ) → i < length κs → WeightRange (get_or κs i (pair 0 0))
 
 -- ---- the years
 
 -- the definition's, from the factor before them on
-abbrev pub Extrapolates : SignedPair → SignedPair → List ℕ → List ℕ → ℕ → Years → Extended → Type 0
-Extrapolates l f klows khighs start years r =
-    as_later start r ≡ extrapolate (as_signed_pair l) (as_signed_pair f) (pairs_of klows khighs) (start + 1) (factor_at years (start - 1))
+abbrev pub Extrapolates : SignedPair → SignedPair → List method.Pair → ℕ → Years → Result Years Ground → Type 0
+Extrapolates l f κs start years r =
+    outcome_of (later_years start) r ≡ extrapolate (as_signed_pair l) (as_signed_pair f) κs (start + 1) (factor_at years (start - 1))
 
--- beside the outcome: the years to the start as they came, the worked ones in range; all as they came where a year was refused
-pub record Kept (start : ℕ) (years : Years) (r : Extended) : Type 0 where
-  pub quoted_lows : take start r.years.lows ≡ take start years.lows
-  pub quoted_highs : take start r.years.highs ≡ take start years.highs
-  pub worked_in_range : r.verdict ≡ Passed → (i : ℕ) → start ≤ i → i < 150 → InRange (factor_at r.years i)
-  pub refused_as_came : (g : Ground) → r.verdict ≡ Refused g → r.years ≡ years
+-- the years to the start as they came, the worked ones in range
+pub record Kept (start : ℕ) (years y : Years) : Type 0 where
+  pub quoted_lows : take start y.lows ≡ take start years.lows
+  pub quoted_highs : take start y.highs ≡ take start years.highs
+  pub worked_in_range : (i : ℕ) → start ≤ i → i < 150 → InRange (factor_at y i)

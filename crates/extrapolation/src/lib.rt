@@ -2,58 +2,39 @@
 // works a high with it, and a low without.
 #![tactic(auto)]
 
-ghost use Rattle.std.specs.Prelude.{◌≡◌, map, ℕ, ◌*◌, ◌-◌, ◌≤◌, ◌<◌, pos, nat_abs, ◌*ℤ◌, get_or};
+ghost use Rattle.std.specs.Prelude.{◌≡◌, map, ℕ, ◌*◌, ◌-◌, ◌≤◌, ◌<◌, pos, nat_abs, ◌*ℤ◌, get_or, IfOk};
 ghost use Rattle.fraction.specs.Rounding.{U, round_ℤ};
-ghost use Rattle.method.specs.Units.{pair, pairs_of};
+ghost use Rattle.method.specs.Units.{pair};
 ghost use Rattle.method.specs.Quotes.{highest_factor};
 ghost use Rattle.method.specs.Ranges.{logarithm_bound, forward_bound, YearlyFactor};
 ghost use Rattle.method.specs.Sheet.{total};
 ghost use Rattle.method.specs.Series.{gap_forward};
 ghost use Rattle.method.specs.Extrapolation.{llfr_numerator, llfr, blend, forward, step};
 ghost use Rattle.rounding.specs.Pairs.{as_pair, as_signed_pair, PairAtMost, SizeAtMost};
-ghost use Rattle.extrapolation.specs.Extrapolated.{as_forwards, factor_at, outer, step_by, GrowthFor, step_range, volume_bound, ForwardSizes, WeightRange};
-ghost use Rattle.extrapolation.specs.Extrapolated.{InRange, Usable, Ahead, Extrapolates, Kept};
+ghost use Rattle.extrapolation.specs.Extrapolated.{as_forwards, signed_end, factor_at, outer, step_by, GrowthFor, step_range, volume_bound};
+ghost use Rattle.extrapolation.specs.Extrapolated.{ForwardSizes, WeightRange, InRange, Usable, Ahead, Extrapolates, Kept};
 
-use grounds::{Ground, Verdict};
-use rounding::{Pair, SignedPair};
+use grounds::Ground;
+use rounding::{Pair, Pairs, SignedPair, UNIT};
 
-// U of the definitions.
-const UNIT: u64 = 1_000_000_000;
-
-const SIGNED_UNIT: i64 = 1_000_000_000;
+const SIGNED_UNIT: i64 = UNIT as i64;
 
 // Ground 8 refuses a high above it.
-const HIGHEST_FACTOR: u64 = 2_000_000_000;
+pub const HIGHEST_FACTOR: u64 = 2_000_000_000;
 
 // The forwards of five gaps.
-#[derive(Clone, Copy)]
-pub struct Forwards {
-    pub lows: [i64; 5],
-    pub highs: [i64; 5],
-}
+pub type Forwards = [SignedPair; 5];
 
-// From the low and high x of each gap.
-pub fn gap_forwards(lows: [u64; 5], highs: [u64; 5]) -> Forwards
-    requires { (i : ℕ) → i < 5 → YearlyFactor (pair (get_or lows i 0) (get_or highs i 0)) }
-    ensures { (as_forwards result ≡ map gap_forward (pairs_of lows highs)) × ForwardSizes logarithm_bound result }
+// From the x of each gap.
+pub fn gap_forwards(xs: [Pair; 5]) -> Forwards
+    requires { (i : ℕ) → i < 5 → YearlyFactor (get_or (map as_pair xs) i (pair 0 0)) }
+    ensures { (as_forwards result ≡ map gap_forward (map as_pair xs)) × ForwardSizes logarithm_bound result }
 {
-    let mut from = [0i64; 5];
-    let mut to = [0i64; 5];
-    for i in 0..5 {
-        let x = Pair {
-            low: lows[i],
-            high: highs[i],
-        };
-        let f = series::gap_forward(x);
-        let low = f.low;
-        let high = f.high;
-        from[i] = low;
-        to[i] = high;
+    let mut forwards = [SignedPair { low: 0, high: 0 }; 5];
+    for (i, x) in xs.iter().enumerate() {
+        forwards[i] = series::gap_forward(*x);
     }
-    Forwards {
-        lows: from,
-        highs: to,
-    }
+    forwards
 }
 
 // ---- LLFR (SPECIFICATION 5.1)
@@ -62,7 +43,7 @@ fn total(volumes: [u64; 5]) -> u64
     requires { (i : ℕ) → get_or volumes i 0 ≤ volume_bound }
     ensures { (result ≡ total volumes) × (result ≤ 5 * volume_bound) }
 {
-    volumes[0] + volumes[1] + volumes[2] + volumes[3] + volumes[4]
+    volumes.iter().sum()
 }
 
 // One product of the numerator: g is the sum of up to six forwards.
@@ -96,15 +77,30 @@ fn llfr_end(volumes: [u64; 5], g: [i64; 5], up: bool) -> i64
     rounding::signed_quotient(llfr_numerator(volumes, g), (12 * total(volumes)) as i64, up)
 }
 
+fn signed_end(f: SignedPair, up: bool) -> i64
+    ensures { result ≡ signed_end up f }
+{
+    if up { f.high } else { f.low }
+}
+
+// The highs, or the lows.
+fn ends(g: Forwards, up: bool) -> [i64; 5]
+    ensures { result ≡ map (signed_end up) g }
+{
+    let mut ends = [0; 5];
+    for (i, f) in g.iter().enumerate() {
+        ends[i] = signed_end(*f, up);
+    }
+    ends
+}
+
 pub fn llfr(volumes: [u64; 5], g: Forwards) -> SignedPair
     requires { ((i : ℕ) → get_or volumes i 0 ≤ volume_bound) × (0 < total volumes) × ForwardSizes forward_bound g }
     ensures { (as_signed_pair result ≡ llfr volumes (as_forwards g)) × SizeAtMost forward_bound result }
 {
-    let lows = g.lows;
-    let highs = g.highs;
     SignedPair {
-        low: llfr_end(volumes, lows, false),
-        high: llfr_end(volumes, highs, true),
+        low: llfr_end(volumes, ends(g, false), false),
+        high: llfr_end(volumes, ends(g, true), true),
     }
 }
 
@@ -130,15 +126,16 @@ fn forward_end(l: i64, f: i64, k: Pair, up: bool) -> i64
 
 // ---- the year's step, times e to minus the forward (SPECIFICATION 5.4)
 
-// E at the forward's size, of the side that a step takes: its own below 0, the other from 0 up.
+// E at the forward's size, of the side that a step takes: its own below 0, the other from 0 up. Two calls: with one, whose side is `(f < 0) == up`,
+// the compiler no longer has a growth for either side, and a post costs a sixth more.
 pub fn growth_by(f: i64, up: bool) -> u64
     requires { nat_abs f ≤ forward_bound }
     ensures { GrowthFor up f result }
 {
     if f < 0 {
-        series::growth((-f) as u64, up)
+        series::growth(f.unsigned_abs(), up)
     } else {
-        series::growth(f as u64, !up)
+        series::growth(f.unsigned_abs(), !up)
     }
 }
 
@@ -178,60 +175,33 @@ fn next_year(l: SignedPair, f: SignedPair, k: Pair, p: Pair) -> Pair
 // ---- the years
 
 // Years 1 to 150, at index t - 1.
-#[derive(Clone, Copy)]
-pub struct Years {
-    pub lows: [u32; 150],
-    pub highs: [u32; 150],
-}
+pub type Years = Pairs<u32, 150>;
 
-// The years are as they came where one is refused.
-#[derive(Clone, Copy)]
-pub struct Extended {
-    pub verdict: Verdict,
-    pub years: Years,
-}
-
-// Entries before `start` hold the years to it; entry start + i is worked from the one before with the i-th of κ's lows and highs, or
-// refused by ground 8 (SPECIFICATION 5.5).
+// Entries before `start` hold the years to it; entry start + i is worked from the one before with the i-th weight, or refused by
+// ground 8 (SPECIFICATION 5.5).
 pub fn extrapolate(
     l: SignedPair,
     f: SignedPair,
-    klows: &[u64],
-    khighs: &[u64],
+    weights: &[Pair],
     start: usize,
-    years: Years,
-) -> Extended
-    requires { Usable l × Usable f × Ahead klows.now khighs.now start × InRange (factor_at years (start - 1)) }
-    ensures outcome { Extrapolates l f klows.now khighs.now start years result }
-    ensures beside { Kept start years result }
+    mut years: Years,
+) -> Result<Years, Ground>
+    requires { Usable l × Usable f × Ahead (map as_pair weights.now) start × InRange (factor_at years (start - 1)) }
+    ensures outcome { Extrapolates l f (map as_pair weights.now) start years result }
+    ensures kept { IfOk result (λ y. Kept start years y) }
 {
-    let mut lows = years.lows;
-    let mut highs = years.highs;
     let mut p = Pair {
-        low: lows[start - 1] as u64,
-        high: highs[start - 1] as u64,
+        low: years.lows[start - 1] as u64,
+        high: years.highs[start - 1] as u64,
     };
-    for i in 0..klows.len() {
-        let k = Pair {
-            low: klows[i],
-            high: khighs[i],
-        };
-        p = next_year(l, f, k, p);
+    for (i, k) in weights.iter().enumerate() {
+        p = next_year(l, f, *k, p);
         let at = start + i;
         if HIGHEST_FACTOR < p.high {
-            return Extended {
-                verdict: Verdict::Refused(Ground::HighAboveLimit(at as u64 + 1)),
-                years: years,
-            };
+            return Err(Ground::HighAboveLimit(at as u64 + 1));
         }
-        lows[at] = p.low as u32;
-        highs[at] = p.high as u32;
+        years.lows[at] = p.low as u32;
+        years.highs[at] = p.high as u32;
     }
-    Extended {
-        verdict: Verdict::Passed,
-        years: Years {
-            lows: lows,
-            highs: highs,
-        },
-    }
+    Ok(years)
 }

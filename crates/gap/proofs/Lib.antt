@@ -1,5 +1,3 @@
-pub mod Parring
-pub mod Weighing
 pub mod Trials
 pub mod Testing
 pub mod Halving

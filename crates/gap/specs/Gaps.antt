@@ -1,29 +1,18 @@
 -- A gap of the code as the method's, what is worked by side, and the numbers that fit 64 bits.
 use Rattle.std.specs.Prelude.{◌≡◌, Bool, true, false, not, cond, ℕ, ◌+◌, ◌*◌, ◌-◌, ◌≤◌, ℤ, nat_abs}
-use Rattle.std.specs.Int.Signed.{mag, non_neg}
+use Rattle.std.specs.Int.Signed.{non_neg}
 use Rattle.fraction.specs.Rounding.{round_ℕ}
 use Rattle.method.specs.Units as method
 use Rattle.method.specs.Units.{end_of, rate_unit, par_value}
 use Rattle.method.specs.Sheet.{total}
 use Rattle.method.specs.Quotes as quotes
-use Rattle.method.specs.Quotes.{highest_factor, par_low, par_high, at_most_par, at_least_par, surely_not_above, surely_not_below, last_of}
-use Rattle.rounding.specs.Pairs.{as_pair, PairAtMost}
-use Rattle.gap.specs.declared.Gap.{Gap}
+use Rattle.method.specs.Quotes.{par_low, par_high, at_most_par, at_least_par, surely_not_above, surely_not_below, last_of}
+use Rattle.rounding.specs.Pairs.{as_pair}
+use Rattle.gap.specs.declared.quote_gap.Gap.{Gap}
 use Rattle.gap.specs.declared.Sums.{Sums}
 
 abbrev pub as_gap : Gap → quotes.Gap
 as_gap g = record { rate = g.rate; years = g.years; annuity = as_pair g.annuity; start = as_pair g.start }
-
--- by its numbers
-abbrev pub gap_of : ℤ → ℕ → ℕ → ℕ → ℕ → ℕ → Gap
-gap_of r k al ah tl th = record { rate = r; years = k; annuity = record { low = al; high = ah }; start = record { low = tl; high = th } }
-
--- a gap of at most thirty years, whose A sums at most fifty factors
-pub record GapFits (g : Gap) : Type 0 where
-  pub rate : mag g.rate ≤ 12_000
-  pub years : g.years ≤ 30
-  pub annuity : PairAtMost 100_000_000_000 g.annuity
-  pub start : PairAtMost highest_factor g.start
 
 -- ---- by side: a high with `true`, a low with `false`
 

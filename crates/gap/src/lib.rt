@@ -8,13 +8,13 @@ ghost use Rattle.fraction.specs.Rounding.{U, round_ℕ};
 ghost use Rattle.method.specs.Units.{pair, rate_unit};
 ghost use Rattle.method.specs.Quotes.{par_numerator, surely_not_above, surely_not_below, halve, low_x, high_x, lower_end, upper_end};
 ghost use Rattle.rounding.specs.Pairs.{as_pair, PairAtMost};
-ghost use Rattle.gap.specs.Gaps.{as_gap, gap_of, GapFits, par_by, par_test, paid_side, par_side, passes_by, rises_by, Halved};
+ghost use Rattle.gap.specs.Gaps.{as_gap, par_by, par_test, paid_side, par_side, passes_by, rises_by, Halved};
 ghost use Rattle.gap.specs.Gaps.{largest, SumsOf, SideOf};
 
-use rounding::Pair;
+mod quote_gap;
 
-// U of the definitions.
-const UNIT: u64 = 1_000_000_000;
+pub use quote_gap::Gap;
+use rounding::{Pair, UNIT};
 
 const RATE_UNIT: u64 = 100_000;
 
@@ -28,14 +28,6 @@ const UPPER_END: u64 = 1_100_000_000;
 
 // In a trial of so many years every product of T and x fits 64 bits.
 const SHORT: u64 = 20;
-
-#[derive(Clone, Copy)]
-pub struct Gap {
-    pub rate: i64,
-    pub years: u64,
-    pub annuity: Pair,
-    pub start: Pair,
-}
 
 // S and Tk of a trial.
 #[derive(Clone, Copy)]
@@ -80,27 +72,15 @@ pub fn par_factor(rate: i64, annuity: Pair, up: bool) -> i64
 
 // ---- the value against par
 
-// The rate without its sign.
-fn size(rate: i64) -> u64
-    requires { mag rate ≤ 12_000 }
-    ensures { (result ≡ nat_abs rate) × (result ≤ 12_001) }
-{
-    if rate < 0 {
-        (0 - rate) as u64
-    } else {
-        rate as u64
-    }
-}
-
 fn weigh(rate: i64, annuity: u64, last: u64) -> Sides
     requires { (mag rate ≤ 12_000) × (annuity ≤ 1_200_000_000_000) × (last ≤ 35_000_000_000) }
     ensures { (result.paid ≡ paid_side rate annuity last) × (result.par ≡ par_side rate annuity) }
 {
-    let moved = size(rate) * annuity;
+    let moved = rate.unsigned_abs() * annuity;
     let paid = RATE_UNIT * last;
     if rate < 0 {
         Sides {
-            paid: paid,
+            paid,
             par: PAR + moved,
         }
     } else {
@@ -141,123 +121,88 @@ fn trial(start: u64, x: u64, years: u64, up: bool) -> Sums
     let long = SHORT < years;
     let mut last = start;
     let mut total = 0;
-    let mut year = 0;
-    while year < years {
+    for _ in 0..years {
         last = year_on(last, x, up, long);
-        total = total + last;
-        year = year + 1;
+        total += last;
     }
-    Sums {
-        total: total,
-        last: last,
-    }
+    Sums { total, last }
 }
 
-// A + S and Tk on one side.
-fn side(g: Gap, x: u64, up: bool) -> Sums
-    requires { GapFits g × (x ≤ upper_end) }
-    ensures { SideOf (as_gap g) x up result }
-{
-    let t = trial(rounding::end(g.start, up), x, g.years, up);
-    Sums {
-        total: rounding::end(g.annuity, up) + t.total,
-        last: t.last,
-    }
-}
-
-// Surely not above par with `up`, surely not below without. A rate of 0 or more needs one side of the trial alone; one below 0
-// takes the annuity from the other.
-pub fn passes(g: Gap, x: u64, up: bool) -> bool
-    requires { GapFits g × (x ≤ upper_end) }
-    ensures { result ≡ passes_by up (as_gap g) x }
-{
-    let same = side(g, x, up);
-    if g.rate < 0 {
-        let other = side(g, x, !up);
-        compared(g.rate, other.total, same.last, up)
-    } else {
-        compared(g.rate, same.total, same.last, up)
-    }
-}
-
-// ---- halving
-
-// Whether the middle becomes the lower end: for the low yearly factor where it is surely not above par, for the high one where it is
-// not surely not below.
-fn rises(g: Gap, low: bool, x: u64) -> bool
-    requires { GapFits g × (x ≤ upper_end) }
-    ensures { result ≡ rises_by low (as_gap g) x }
-{
-    passes(g, x, low) == low
-}
-
-// Halves until the ends are 1 apart; the lower end for the low yearly factor, the upper for the high. The gap's numbers come one by one,
-// because a struct would be copied at every call.
-fn halve(
-    rate: i64,
-    years: u64,
-    al: u64,
-    ah: u64,
-    tl: u64,
-    th: u64,
-    low: bool,
-    lo: u64,
-    hi: u64,
-) -> u64
-    requires { GapFits (gap_of rate years al ah tl th) × (lo ≤ hi) × (hi ≤ upper_end) }
-    ensures { Halved low (as_gap (gap_of rate years al ah tl th)) lo hi result }
-{
-    if 1 < hi - lo {
-        let middle = lo + (hi - lo) / 2;
-        let annuity = Pair { low: al, high: ah };
-        let start = Pair { low: tl, high: th };
-        let g = Gap {
-            rate: rate,
-            years: years,
-            annuity: annuity,
-            start: start,
-        };
-        if rises(g, low, middle) {
-            halve(rate, years, al, ah, tl, th, low, middle, hi)
-        } else {
-            halve(rate, years, al, ah, tl, th, low, lo, middle)
+impl Gap {
+    // A + S and Tk on one side.
+    fn side(&self, x: u64, up: bool) -> Sums
+        requires { x ≤ upper_end }
+        ensures { SideOf (as_gap self.now) x up result }
+    {
+        let t = trial(rounding::end(self.start, up), x, self.years, up);
+        Sums {
+            total: rounding::end(self.annuity, up) + t.total,
+            last: t.last,
         }
-    } else {
-        if low { lo } else { hi }
+    }
+
+    // Surely not above par with `up`, surely not below without. A rate of 0 or more needs one side of the trial alone; one below 0
+    // takes the annuity from the other.
+    pub fn passes(&self, x: u64, up: bool) -> bool
+        requires { x ≤ upper_end }
+        ensures { result ≡ passes_by up (as_gap self.now) x }
+    {
+        let same = self.side(x, up);
+        if self.rate < 0 {
+            let other = self.side(x, !up);
+            compared(self.rate, other.total, same.last, up)
+        } else {
+            compared(self.rate, same.total, same.last, up)
+        }
+    }
+
+    // Whether the middle becomes the lower end: for the low yearly factor where it is surely not above par, for the high one where it
+    // is not surely not below.
+    fn rises(&self, low: bool, x: u64) -> bool
+        requires { x ≤ upper_end }
+        ensures { result ≡ rises_by low (as_gap self.now) x }
+    {
+        self.passes(x, low) == low
+    }
+
+    // Halves until the ends are 1 apart; the lower end for the low yearly factor, the upper for the high.
+    fn halve(&self, low: bool, lo: u64, hi: u64) -> u64
+        requires { (lo ≤ hi) × (hi ≤ upper_end) }
+        ensures { Halved low (as_gap self.now) lo hi result }
+    {
+        if 1 < hi - lo {
+            let middle = lo + (hi - lo) / 2;
+            if self.rises(low, middle) {
+                self.halve(low, middle, hi)
+            } else {
+                self.halve(low, lo, middle)
+            }
+        } else {
+            if low { lo } else { hi }
+        }
+    }
+
+    // From the ends 0.8 and 1.1.
+    fn halved(&self, low: bool) -> u64
+        ensures { Halved low (as_gap self.now) lower_end upper_end result }
+    {
+        self.halve(low, LOWER_END, UPPER_END)
     }
 }
 
 // Both ends pass their test, without which there is no yearly factor.
 pub fn ends_pass(g: Gap) -> bool
-    requires { GapFits g }
     ensures { result ≡ (surely_not_above (as_gap g) lower_end && surely_not_below (as_gap g) upper_end) }
 {
-    if passes(g, LOWER_END, true) {
-        passes(g, UPPER_END, false)
-    } else {
-        false
-    }
-}
-
-// From the ends 0.8 and 1.1.
-fn halved(g: Gap, low: bool) -> u64
-    requires { GapFits g }
-    ensures { Halved low (as_gap g) lower_end upper_end result }
-{
-    let a = g.annuity;
-    let t = g.start;
-    halve(
-        g.rate, g.years, a.low, a.high, t.low, t.high, low, LOWER_END, UPPER_END,
-    )
+    g.passes(LOWER_END, true) && g.passes(UPPER_END, false)
 }
 
 // The low and the high yearly factor.
 pub fn yearly_factor(g: Gap) -> Pair
-    requires { GapFits g }
     ensures { as_pair result ≡ pair (low_x (as_gap g)) (high_x (as_gap g)) }
 {
     Pair {
-        low: halved(g, true),
-        high: halved(g, false),
+        low: g.halved(true),
+        high: g.halved(false),
     }
 }

@@ -1,24 +1,30 @@
 -- A journal, record by record: the calls that are left lead from the book in hand to the book of all calls.
-use mathlib.Core.Path.{◌≡◌, refl, ap, sym, ◌∙◌}
+use mathlib.Core.Path.{◌≡◌, refl, ap, sym, subst, ◌∙◌}
 use mathlib.Core.Bool.{Bool, true, false, cond}
 use mathlib.Core.List.{List, [], ◌∷◌}
 use Prim.Native.Nat.{ℕ, zero, suc, ◌+◌, ◌-◌, ◌≤◌, ◌<◌}
 use native.Mathlib.Omega.{arith}
 use lib.Dec.{leb, eqb}
 use lib.ListN.{length, get_or, take, drop, length-drop}
-use lib.Seq.{take_all, drop-drop}
+use lib.Seq.{take_all}
+use Rattle.std.specs.declared.result.Result.TheVariants.{Ok, Err}
 use Rattle.method.specs.Units.{plain}
 use Rattle.ledger.specs.Book.{Book, fresh}
 use Rattle.ledger.specs.Answers.{factor}
 use Rattle.ledger.specs.Calls.{Call, post_of, turn_to, withdrawal, look_at, asks, run, run_from}
 use Rattle.ledger.specs.Tells.{read2}
+use Rattle.book.specs.declared.Book as code
 use Rattle.book.specs.Views.{as_book}
 use Rattle.journal.specs.Journal.{Front, whole, cut, unknown, sheet_at, sheet_length, sheet_in, record_of, post_front, turn_front, look_front}
 use Rattle.journal.specs.Journal.{desk_front, front}
 use Rattle.journal.specs.Journal.{and_then, decode_from, decode}
-use Rattle.journal.specs.Replies.{book_after, taken}
-use Rattle.journal.specs.Made.{Makes}
+use Rattle.journal.specs.Replies as replies
+use Rattle.journal.specs.Replies.{posted, turned, withdrawn, looked, cut_short, not_known, reply_to, book_after, taken}
+use Rattle.journal.specs.Made.{as_reply, MakesFront, MakesAtDesk, Makes}
 use Rattle.journal.specs.declared.Made.{Made}
+use Rattle.journal.specs.declared.NoCall.{NoCall}
+use Rattle.journal.specs.declared.Reply.{Reply}
+use Rattle.journal.specs.declared.Reply.TheVariants.{Posted, Turned, Withdrawn, Looked}
 
 -- ---- a whole record has at least a byte
 
@@ -81,52 +87,73 @@ one_made b (suc most) s h t =
     let e : suc most - 1 ≡ most = omega arith in
     rw e (first b (front s) (decode_from most) s t)
 
--- ---- at a place
+-- ---- on the way
 
--- the book before the call there, from which the rest of the calls leads to the last book
-pub record Reached (limit : ℕ) (calls : List ℕ) (b : Book) (at : ℕ) : Type 0 where
+-- the book before the calls that are left, from which they lead to the last book
+pub record Reached (limit : ℕ) (calls : List ℕ) (b : Book) (rest : List ℕ) : Type 0 where
   pub most : ℕ
-  pub within : at ≤ length calls
-  pub enough : length calls - at ≤ most
-  pub runs : run limit (decode calls) ≡ run_from b (decode_from most (drop at calls))
+  pub enough : length rest ≤ most
+  pub runs : run limit (decode calls) ≡ run_from b (decode_from most rest)
 
--- the part of the bytes from a place on, as it is lent
+pub begins : (limit : ℕ) (calls : List ℕ) → Reached limit calls (fresh limit) calls
+unfolding decode
+begins limit calls = record { most = length calls; enough = omega arith; runs = refl }
+
+-- a call was made, so a whole record stood there
+abbrev IsCall : replies.Reply → Type 0
+IsCall (posted o) = Unit {0}
+IsCall (turned o) = Unit {0}
+IsCall (withdrawn o) = Unit {0}
+IsCall (looked y o) = Unit {0}
+IsCall cut_short = ⊥
+IsCall not_known = ⊥
+
+is_call : (r : Reply) → IsCall (as_reply r)
+is_call (Posted answer) = tt
+is_call (Turned answer) = tt
+is_call (Withdrawn answer) = tt
+is_call (Looked year answer) = tt
+
+some_taken : (b : Book) (f : Front) → Some f → IsCall (reply_to b f) → 0 < taken f
+some_taken b (whole c n) k h = k
+some_taken b cut k h = absurd h
+some_taken b unknown k h = absurd h
+
+takes : (before after : code.Book) (rest : List ℕ) (f : Front) → Some f → (made : Made) → MakesFront before after rest f (Ok made) → 0 < made.taken
+takes before after rest f some made m =
+    omega (arith, m.bytes, some_taken (as_book before) f some (subst IsCall m.reply (is_call made.reply)))
+
+-- also at the desk
+pub desk_takes : (before after : code.Book) (rest : List ℕ) (made : Made) → MakesAtDesk before after rest (Ok made) → 0 < made.taken
+desk_takes before after rest made m = takes before after rest (desk_front rest) (desk_front_some rest) made m
+
+-- the rest from a place on, as it is lent
 abbrev pub lent : List ℕ → ℕ → List ℕ
 lent calls at = take (length calls - at) (drop at calls)
 
 pub lent_rest : (calls : List ℕ) (at : ℕ) → lent calls at ≡ drop at calls
 lent_rest calls at = take_all (length calls - at) (drop at calls) (omega (arith, length-drop at calls))
 
-pub begins : (limit : ℕ) (calls : List ℕ) → Reached limit calls (fresh limit) 0
-unfolding decode
-begins limit calls = record { most = length calls; within = omega arith; enough = omega arith; runs = refl }
+module _ (limit : ℕ) (calls : List ℕ) (before after : code.Book) (rest : List ℕ) (x : Reached limit calls (as_book before) rest) where
+  pub stops : (why : NoCall) → Makes before after rest (Err why) → as_book after ≡ run limit (decode calls)
+  stops why m =
+      let t : taken (front rest) ≡ 0 = sym m.bytes in
+      m.book
+      ∙ (stopped (as_book before) (front rest) (λ l. []) rest (front_some rest) t).1
+      ∙ sym (x.runs ∙ ap (run_from (as_book before)) (none_left x.most rest t))
 
-module _ (limit : ℕ) (calls : List ℕ) (b : Book) (at : ℕ) (x : Reached limit calls b at) where
-  stopped_at : taken (front (drop at calls)) ≡ 0 → b ≡ run limit (decode calls)
-  stopped_at h = sym (x.runs ∙ ap (run_from b) (none_left x.most (drop at calls) h))
+  module _ (made : Made) (m : Makes before after rest (Ok made)) where
+    taken_some : 0 < made.taken
+    taken_some = takes before after rest (front rest) (front_some rest) made m
 
-  pub ends : length calls ≤ at → b ≡ run limit (decode calls)
-  ends h = stopped_at (rw (front_end (drop at calls) (omega (arith, length-drop at calls))))
+    pub falls : length (lent rest made.taken) < length rest
+    falls = rw (lent_rest rest made.taken) (omega (arith, length-drop made.taken rest, taken_some, m.within))
 
-  module _ (r : Made) (m : Makes b (lent calls at) r) where
-    made : Makes b (drop at calls) r
-    made = rw (lent_rest calls at) at m
-
-    pub stops_here : r.taken ≡ 0 → as_book r.book ≡ run limit (decode calls)
-    stops_here h =
-        let rest = drop at calls in
-        let t : taken (front rest) ≡ 0 = sym made.bytes ∙ h in
-        made.book ∙ (stopped b (front rest) (λ l. []) rest (front_some rest) t).1 ∙ stopped_at t
-
-    pub goes_on : at < length calls → 0 < r.taken → Reached limit calls (as_book r.book) (at + r.taken)
-    goes_on h t =
-        let d = made in
-        let n = length-drop at calls in
-        record {
+    pub goes_on : Reached limit calls (as_book after) (lent rest made.taken)
+    goes_on =
+        rw (lent_rest rest made.taken)
+        (record {
           most = x.most - 1;
-          within = omega arith;
-          enough = omega arith;
-          runs =
-              rw (d.book, d.bytes, ← drop-drop (taken (front (drop at calls))) at calls)
-              (x.runs ∙ one_made b x.most (drop at calls) (omega arith) (omega arith));
-        }
+          enough = omega (arith, length-drop made.taken rest, taken_some, m.within);
+          runs = rw (m.book, m.bytes) (x.runs ∙ one_made (as_book before) x.most rest (omega (arith, taken_some, m.within)) (omega (arith, taken_some, m.bytes)));
+        })

@@ -1,3 +1,4 @@
 pub mod Journal
 pub mod Replies
+pub mod Kinds
 pub mod Made

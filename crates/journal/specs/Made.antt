@@ -1,90 +1,67 @@
 -- What making the call at the front of some bytes hands back.
-use Rattle.std.specs.Prelude.{Bool, true, false, ◌&&◌, List, ◌≡◌, ℕ, ◌≤◌, leb, eqb, length, get_or}
-use Rattle.ledger.specs.Answers as answer
-use Rattle.ledger.specs.Book.{Book}
-use Rattle.grounds.specs.declared.Verdict.{Verdict}
-use Rattle.grounds.specs.declared.Verdict.TheVariants.{Passed}
-use Rattle.grounds.specs.Verdicts.{as_outcome, result_or}
-use Rattle.book.specs.declared.Book as code
-use Rattle.book.specs.declared.Finding.{Finding}
-use Rattle.book.specs.Views.{as_book, as_finding, no_finding}
+use Rattle.std.specs.Prelude.{Bool, true, false, ◌&&◌, List, ◌≡◌, ℕ, ◌≤◌, leb, eqb, length, get_or, Result, Option, OnErr}
+use Rattle.std.specs.declared.option.Option.TheVariants.{None, Some}
+use Rattle.std.specs.declared.result.Result.TheVariants.{Ok, Err}
+use Rattle.grounds.specs.Answers.{outcome_of, as_answered}
+use Rattle.book.specs.declared.Book.{Book}
+use Rattle.book.specs.Views.{as_book, as_finding}
 use Rattle.journal.specs.Journal.{Front, desk_front, front}
 use Rattle.journal.specs.Replies as replies
 use Rattle.journal.specs.Replies.{posted, turned, withdrawn, looked, cut_short, not_known, reply_to, book_after, taken}
 use Rattle.journal.specs.declared.Reply.{Reply}
-use Rattle.journal.specs.declared.Reply.TheVariants.{Posted, Turned, Withdrawn, Looked, CutShort, NotKnown}
+use Rattle.journal.specs.declared.Reply.TheVariants.{Posted, Turned, Withdrawn, Looked}
+use Rattle.journal.specs.declared.NoCall.{NoCall}
+use Rattle.journal.specs.declared.NoCall.TheVariants.{CutShort, NotKnown}
 use Rattle.journal.specs.declared.Made.{Made}
 use Rattle.journal.specs.declared.Asked.{Asked}
 
-abbrev pub as_reply : Reply → Verdict → ℕ → Finding → replies.Reply
-as_reply Posted v m f = posted (as_outcome v m)
-as_reply Turned v m f = turned (as_outcome v m)
-as_reply Withdrawn v m f = withdrawn (as_outcome v tt)
-as_reply (Looked y) v m f = looked y (as_outcome v (as_finding f))
-as_reply CutShort v m f = cut_short
-as_reply NotKnown v m f = not_known
+abbrev pub as_reply : Reply → replies.Reply
+as_reply (Posted answer) = posted (as_answered answer)
+as_reply (Turned answer) = turned (as_answered answer)
+as_reply (Withdrawn answer) = withdrawn (as_answered answer)
+as_reply (Looked year answer) = looked year (outcome_of as_finding answer)
 
--- what stands beside the verdict: a month, or 0
-abbrev pub month_beside : replies.Reply → ℕ
-month_beside (posted o) = result_or 0 o
-month_beside (turned o) = result_or 0 o
-month_beside (withdrawn o) = 0
-month_beside (looked y o) = 0
-month_beside cut_short = 0
-month_beside not_known = 0
+abbrev pub as_no_call : NoCall → replies.Reply
+as_no_call CutShort = cut_short
+as_no_call NotKnown = not_known
 
--- and a finding, or zeros
-abbrev pub finding_beside : replies.Reply → answer.Finding
-finding_beside (posted o) = no_finding
-finding_beside (turned o) = no_finding
-finding_beside (withdrawn o) = no_finding
-finding_beside (looked y o) = result_or no_finding o
-finding_beside cut_short = no_finding
-finding_beside not_known = no_finding
+-- the reply of the call that was made, or why none was
+abbrev pub as_replied : Result Made NoCall → replies.Reply
+as_replied (Ok made) = as_reply made.reply
+as_replied (Err why) = as_no_call why
 
--- nothing was called
-pub record NoCall (book : code.Book) (reply : Reply) (r : Made) : Type 0 where
-  pub reply_kept : r.reply ≡ reply
-  pub passed : r.verdict ≡ Passed
-  pub month : r.month ≡ 0
-  pub finding : as_finding r.finding ≡ no_finding
-  pub bytes : r.taken ≡ 0
-  pub book_kept : r.book ≡ book
+-- the record's bytes; 0 where nothing was called
+abbrev pub bytes_taken : Result Made NoCall → ℕ
+bytes_taken (Ok made) = made.taken
+bytes_taken (Err why) = 0
 
-pub record MakesFront (b : Book) (s : List ℕ) (f : Front) (r : Made) : Type 0 where
-  pub reply : as_reply r.reply r.verdict r.month r.finding ≡ reply_to b f
-  pub month : r.month ≡ month_beside (reply_to b f)
-  pub finding : as_finding r.finding ≡ finding_beside (reply_to b f)
-  pub book : as_book r.book ≡ book_after b f
-  pub bytes : r.taken ≡ taken f
-  pub within : r.taken ≤ length s
+-- with the book before and after
+pub record MakesFront (before after : Book) (s : List ℕ) (f : Front) (r : Result Made NoCall) : Type 0 where
+  pub reply : as_replied r ≡ reply_to (as_book before) f
+  pub book : as_book after ≡ book_after (as_book before) f
+  pub kept : OnErr r (after ≡ before)
+  pub bytes : bytes_taken r ≡ taken f
+  pub within : bytes_taken r ≤ length s
 
 -- a record that the desk knows
-abbrev pub MakesAtDesk : Book → List ℕ → Made → Type 0
-MakesAtDesk b s r = MakesFront b s (desk_front s) r
+abbrev pub MakesAtDesk : Book → Book → List ℕ → Result Made NoCall → Type 0
+MakesAtDesk before after s r = MakesFront before after s (desk_front s) r
 
 -- any record
-abbrev pub Makes : Book → List ℕ → Made → Type 0
-Makes b s r = MakesFront b s (front s) r
+abbrev pub Makes : Book → Book → List ℕ → Result Made NoCall → Type 0
+Makes before after s r = MakesFront before after s (front s) r
 
 -- ---- a look-up's record, by itself
-
--- where none is asked
-pub record NotAsked (r : Asked) : Type 0 where
-  pub no_look : r.is_look ≡ false
-  pub year : r.year ≡ 0
-  pub passed : r.verdict ≡ Passed
-  pub finding : as_finding r.finding ≡ no_finding
 
 -- it stands whole at the front
 abbrev pub starts_look : List ℕ → Bool
 starts_look s = leb 2 (length s) && eqb (get_or s 0 0) 0x4C
 
--- what it makes, the book staying as it is
-abbrev pub look_made : code.Book → Asked → Made
-look_made book r = record { reply = Looked r.year; verdict = r.verdict; month = 0; finding = r.finding; taken = 2; book = book }
+-- what making it hands back
+abbrev pub look_made : Asked → Result Made NoCall
+look_made asked = Ok (record { reply = Looked asked.year asked.answer; taken = 2 })
 
-pub record Asks (book : code.Book) (s : List ℕ) (r : Asked) : Type 0 where
-  pub is_look : r.is_look ≡ starts_look s
-  pub made : starts_look s ≡ true → MakesAtDesk (as_book book) s (look_made book r)
-  pub not_asked : starts_look s ≡ false → NotAsked r
+-- the book staying as it is
+abbrev pub Asks : Book → List ℕ → Option Asked → Type 0
+Asks book s None = starts_look s ≡ false
+Asks book s (Some asked) = (starts_look s ≡ true) × MakesAtDesk book book s (look_made asked)

@@ -1,207 +1,152 @@
 // Records, calls written as bytes: the call at the front of some bytes, made on a book.
 #![tactic(auto)]
 
-ghost use Rattle.std.specs.Prelude.{◌≡◌, ◌≤◌, length, get_or};
+mod kind;
+
+ghost use Rattle.std.specs.Prelude.{◌≡◌, ◌≤◌, length};
 ghost use Rattle.ledger.specs.Calls.{withdrawal};
-ghost use Rattle.book.specs.Views.{as_book};
-ghost use Rattle.journal.specs.Journal.{record_of, post_front, turn_front};
-ghost use Rattle.journal.specs.Made.{NoCall, NotAsked, Asks, MakesFront, MakesAtDesk, Makes};
+ghost use Rattle.journal.specs.Journal.{record_of, post_front, turn_front, look_front};
+ghost use Rattle.journal.specs.Made.{Asks, MakesFront, MakesAtDesk, Makes};
+ghost use Rattle.journal.specs.Kinds.{kind_at, word_at, front_by};
 
 use big_endian::two_bytes;
 use book::{Book, Finding, Wanted, Which};
-use grounds::Verdict;
+use grounds::Ground;
+use kind::Kind;
 
-// What was called; or why nothing was.
+// What a call was answered; a look-up with its year.
 #[derive(Clone, Copy)]
 pub enum Reply {
-    Posted,
-    Turned,
-    Withdrawn,
-    Looked(u64),
+    Posted(Result<u64, Ground>),
+    Turned(Result<u64, Ground>),
+    Withdrawn(Result<(), Ground>),
+    Looked(u64, Result<Finding, Ground>),
+}
+
+// Why nothing was called: no whole record stands there, or its kind is not known.
+#[derive(Clone, Copy, PartialEq, Eq)]
+pub enum NoCall {
     CutShort,
     NotKnown,
 }
 
-// The month is a post's or a turn's, the finding a look-up's; all zero elsewhere. `taken` is the record's length, 0 without a call.
+// With the record's length.
 #[derive(Clone, Copy)]
 pub struct Made {
     pub reply: Reply,
-    pub verdict: Verdict,
-    pub month: u64,
-    pub finding: Finding,
     pub taken: usize,
-    pub book: Book,
 }
 
-// A look-up's record at the front of some bytes; where none is, all else is zero.
+// A look-up's record that stands whole.
 #[derive(Clone, Copy)]
 pub struct Asked {
-    pub is_look: bool,
     pub year: u64,
-    pub verdict: Verdict,
-    pub finding: Finding,
+    pub answer: Result<Finding, Ground>,
 }
 
-// The book is handed back as it was.
-fn no_call(book: Book, reply: Reply) -> Made
-    ensures { NoCall book reply result }
+fn kind_of(rest: &[u8]) -> Result<Kind, NoCall>
+    ensures { result ≡ kind_at rest.now }
 {
-    Made {
-        reply: reply,
-        verdict: Verdict::Passed,
-        month: 0,
-        finding: book::no_finding(),
-        taken: 0,
-        book: book,
-    }
+    let [byte, ..] = rest else {
+        return Err(NoCall::CutShort);
+    };
+    Kind::try_from(*byte)
+}
+
+// The two bytes behind the kind: a sheet's length, or a month.
+fn word_behind(rest: &[u8]) -> Result<u64, NoCall>
+    ensures { result ≡ word_at rest.now }
+{
+    let [_, high, low, ..] = rest else {
+        return Err(NoCall::CutShort);
+    };
+    Ok(two_bytes(*high, *low))
 }
 
 // The sheet's length stands before it.
-fn make_post(book: Book, rest: &[u8]) -> Made
-    ensures { MakesFront (as_book book) rest.now (post_front rest.now) result }
+fn make_post(book: &mut Book, rest: &[u8]) -> Result<Made, NoCall>
+    ensures { MakesFront book.old book.new rest.now (post_front rest.now) result }
 {
-    if rest.len() < 3 {
-        return no_call(book, Reply::CutShort);
-    }
-    let length = two_bytes(rest[1], rest[2]) as usize;
-    let end = 3 + length;
-    if rest.len() < end {
-        return no_call(book, Reply::CutShort);
-    }
-    let booked = book::post(book, &rest[3..end]);
-    let verdict = booked.verdict;
-    let next = booked.book;
-    Made {
-        reply: Reply::Posted,
-        verdict: verdict,
-        month: booked.month,
-        finding: book::no_finding(),
+    let end = 3 + word_behind(rest)? as usize;
+    let sheet = rest.get(3..end).ok_or(NoCall::CutShort)?;
+    Ok(Made {
+        reply: Reply::Posted(book.post(sheet)),
         taken: end,
-        book: next,
-    }
+    })
 }
 
-fn make_turn(book: Book, rest: &[u8]) -> Made
-    ensures { MakesFront (as_book book) rest.now (turn_front rest.now) result }
+fn make_turn(book: &mut Book, rest: &[u8]) -> Result<Made, NoCall>
+    ensures { MakesFront book.old book.new rest.now (turn_front rest.now) result }
 {
-    if rest.len() < 3 {
-        return no_call(book, Reply::CutShort);
-    }
-    let booked = book::turn(book, two_bytes(rest[1], rest[2]));
-    let verdict = booked.verdict;
-    let next = booked.book;
-    Made {
-        reply: Reply::Turned,
-        verdict: verdict,
-        month: booked.month,
-        finding: book::no_finding(),
+    let month = word_behind(rest)?;
+    Ok(Made {
+        reply: Reply::Turned(book.turn(month)),
         taken: 3,
-        book: next,
-    }
+    })
 }
 
-fn not_asked() -> Asked
-    ensures { NotAsked result }
+// The look-up at the front of some bytes, if one stands there whole. It leaves the book as it is.
+pub fn ask(book: &Book, rest: &[u8]) -> Option<Asked>
+    ensures { Asks book.now rest.now result }
 {
-    Asked {
-        is_look: false,
-        year: 0,
-        verdict: Verdict::Passed,
-        finding: book::no_finding(),
-    }
+    let Ok(Kind::Look) = kind_of(rest) else {
+        return None;
+    };
+    let year = big_endian::wide(*rest.get(1)?);
+    Some(Asked {
+        year,
+        answer: book.look_up(Which::Plain, Wanted::Factor, year),
+    })
 }
 
-// Makes the look-up at the front of some bytes, if one stands there whole. It leaves the book as it is and does not hand it back, for
-// whoever makes many: a book handed back is copied.
-pub fn ask(book: Book, rest: &[u8]) -> Asked
-    ensures { Asks book rest.now result }
+fn make_look(book: &mut Book, rest: &[u8]) -> Result<Made, NoCall>
+    requires { kind_at rest.now ≡ Ok Kind.Look }
+    ensures { MakesFront book.old book.new rest.now (look_front rest.now) result }
 {
-    if rest.len() < 2 {
-        return not_asked();
-    }
-    if rest[0] != 0x4C {
-        return not_asked();
-    }
-    let year = big_endian::wide(rest[1]);
-    let looked = book::look_up(book, Which::Plain, Wanted::Factor, year);
-    let verdict = looked.verdict;
-    let finding = looked.finding;
-    Asked {
-        is_look: true,
-        year: year,
-        verdict: verdict,
-        finding: finding,
-    }
-}
-
-// A record of this kind.
-fn make_look(book: Book, rest: &[u8]) -> Made
-    requires { get_or rest.now 0 0 ≡ 0x4C }
-    ensures { MakesAtDesk (as_book book) rest.now result }
-{
-    let asked = ask(book, rest);
-    if !asked.is_look {
-        return no_call(book, Reply::CutShort);
-    }
-    let verdict = asked.verdict;
-    let finding = asked.finding;
-    Made {
-        reply: Reply::Looked(asked.year),
-        verdict: verdict,
-        month: 0,
-        finding: finding,
+    let Asked { year, answer } = ask(book, rest).ok_or(NoCall::CutShort)?;
+    Ok(Made {
+        reply: Reply::Looked(year, answer),
         taken: 2,
-        book: book,
-    }
+    })
 }
 
 // The kind byte is the whole record.
-fn make_withdrawal(book: Book, rest: &[u8]) -> Made
+fn make_withdrawal(book: &mut Book, rest: &[u8]) -> Result<Made, NoCall>
     requires { 1 ≤ length rest.now }
-    ensures { MakesFront (as_book book) rest.now (record_of rest.now 1 withdrawal) result }
+    ensures { MakesFront book.old book.new rest.now (record_of rest.now 1 withdrawal) result }
 {
-    let withdrawn = book::withdraw(book);
-    let verdict = withdrawn.verdict;
-    let next = withdrawn.book;
-    Made {
-        reply: Reply::Withdrawn,
-        verdict: verdict,
-        month: 0,
-        finding: book::no_finding(),
+    Ok(Made {
+        reply: Reply::Withdrawn(book.withdraw()),
         taken: 1,
-        book: next,
+    })
+}
+
+// A record of this kind.
+fn make_kind(kind: Kind, book: &mut Book, rest: &[u8]) -> Result<Made, NoCall>
+    requires { kind_at rest.now ≡ Ok kind }
+    ensures { MakesFront book.old book.new rest.now (front_by kind rest.now) result }
+{
+    match kind {
+        Kind::Post => make_post(book, rest),
+        Kind::Turn => make_turn(book, rest),
+        Kind::Look => make_look(book, rest),
+        Kind::Withdrawal => make_withdrawal(book, rest),
     }
 }
 
-// Any bytes; a withdrawal is unknown to the desk.
-pub fn make_at_desk(book: Book, rest: &[u8]) -> Made
-    ensures { MakesAtDesk (as_book book) rest.now result }
+// Any bytes; a withdrawal is unknown to the desk. Where nothing is called, the book stays as it was.
+pub fn make_at_desk(book: &mut Book, rest: &[u8]) -> Result<Made, NoCall>
+    ensures { MakesAtDesk book.old book.new rest.now result }
 {
-    if rest.len() == 0 {
-        return no_call(book, Reply::CutShort);
+    match kind_of(rest)? {
+        Kind::Withdrawal => Err(NoCall::NotKnown),
+        kind => make_kind(kind, book, rest),
     }
-    let kind = rest[0];
-    if kind == 0x50 {
-        return make_post(book, rest);
-    }
-    if kind == 0x4D {
-        return make_turn(book, rest);
-    }
-    if kind == 0x4C {
-        return make_look(book, rest);
-    }
-    no_call(book, Reply::NotKnown)
 }
 
 // Any bytes.
-pub fn make(book: Book, rest: &[u8]) -> Made
-    ensures { Makes (as_book book) rest.now result }
+pub fn make(book: &mut Book, rest: &[u8]) -> Result<Made, NoCall>
+    ensures { Makes book.old book.new rest.now result }
 {
-    if rest.len() < 1 {
-        return make_at_desk(book, rest);
-    }
-    if rest[0] == 0x57 {
-        return make_withdrawal(book, rest);
-    }
-    make_at_desk(book, rest)
+    make_kind(kind_of(rest)?, book, rest)
 }

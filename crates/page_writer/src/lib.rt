@@ -56,9 +56,7 @@ pub fn write_to<'a>(
     ensures { out.new ≡ written_to t (page_bytes month age lows.now highs.now) out.old }
 {
     put_head(month, age, out);
-    let mut y: usize = 0;
-    while y < t {
+    for y in 0..t {
         put_next_year(lows, highs, y, out);
-        y += 1;
     }
 }

@@ -23,8 +23,8 @@ fn show(
     if lent.len() < length {
         return Ok(());
     }
-    let verdict = replay::page_after(age_limit, calls, which, &mut lent[..length]);
-    rt.println(grounds::number(verdict))?;
+    let answer = replay::page_after(age_limit, calls, which, &mut lent[..length]);
+    rt.println(grounds::number(&answer))?;
     rt.write_all(lent)
 }
 
@@ -39,16 +39,18 @@ fn page_into(
     show(rt, age_limit, calls, which, &mut lent, length)
 }
 
-fn pages_of(rt: &impl Print, age_limit: u64, calls: &[u8], which: Which) -> io::Result<()> {
-    page_into(rt, age_limit, calls, which, 0)?;
-    page_into(rt, age_limit, calls, which, 1_504)?;
-    page_into(rt, age_limit, calls, which, 1_505)?;
-    page_into(rt, age_limit, calls, which, 2_000)
+fn pages(rt: &impl Print, age_limit: u64, calls: &[u8]) -> io::Result<()> {
+    for which in [Which::Plain, Which::Adjusted] {
+        pages_of(rt, age_limit, calls, which)?;
+    }
+    Ok(())
 }
 
-fn pages(rt: &impl Print, age_limit: u64, calls: &[u8]) -> io::Result<()> {
-    pages_of(rt, age_limit, calls, Which::Plain)?;
-    pages_of(rt, age_limit, calls, Which::Adjusted)
+fn pages_of(rt: &impl Print, age_limit: u64, calls: &[u8], which: Which) -> io::Result<()> {
+    for length in [0, 1_504, 1_505, 2_000] {
+        page_into(rt, age_limit, calls, which, length)?;
+    }
+    Ok(())
 }
 
 // Of years 1 to 150.
@@ -57,9 +59,9 @@ fn multiples(of: u32) -> [u32; 150]
 {
     let mut numbers = [0u32; 150];
     let mut last: u32 = 0;
-    for i in 0..150 {
+    for number in &mut numbers {
         last += of;
-        numbers[i] = last;
+        *number = last;
     }
     numbers
 }
@@ -75,19 +77,17 @@ fn show_written_to(rt: &impl Print, t: usize) -> io::Result<()>
 }
 
 fn states(rt: &impl Print) -> io::Result<()> {
-    show_written_to(rt, 0)?;
-    show_written_to(rt, 1)?;
-    show_written_to(rt, 2)?;
-    show_written_to(rt, 75)?;
-    show_written_to(rt, 149)?;
-    show_written_to(rt, 150)
+    for t in [0, 1, 2, 75, 149, 150] {
+        show_written_to(rt, t)?;
+    }
+    Ok(())
 }
 
 fn main(rt: HostRuntime) -> io::Result<()> {
     let mut buffer = [0u8; 65_536];
     let read = input::fill(&mut rt.stdin(), &mut buffer)?;
-    pages(&rt, 5_000, &buffer[..read])?;
-    pages(&rt, 3, &buffer[..read])?;
-    pages(&rt, 2, &buffer[..read])?;
+    for age_limit in [5_000, 3, 2] {
+        pages(&rt, age_limit, &buffer[..read])?;
+    }
     states(&rt)
 }

@@ -1,6 +1,5 @@
 -- Where the growth over the years comes to pass a bound, which is where the halvings of the definitions stop.
-use Rattle.std.specs.Prelude.{◌≡◌, ℕ, ◌+◌, ◌<◌, ◌≤◌, min, Bool, true, false, not, ◌&&◌, ◌||◌, pos, nat_le}
-use Rattle.method.specs.Units.{SignedPair, signed_pair}
+use Rattle.std.specs.Prelude.{◌≡◌, ℕ, ◌+◌, ◌<◌, ◌≤◌, min, Bool, true, false, not, ◌&&◌, ◌||◌, nat_le}
 use Rattle.zero_rates.specs.Rates.{compound}
 use Rattle.rate_search.specs.declared.Growths.{Growths}
 
@@ -35,12 +34,3 @@ pub record Turns (up : Bool) (t bound lo hi m : ℕ) : Type 0 where
   pub between : Between lo hi m
   pub here : lo < m → within up t bound m ≡ true
   pub next : m + 1 < hi → within up t bound (m + 1) ≡ false
-
--- by the exact growth, or by a guess
-pub record Halved (exact : Bool) (up : Bool) (t bound lo hi m : ℕ) : Type 0 where
-  pub between : Between lo hi m
-  pub turns : exact ≡ true → Turns up t bound lo hi m
-
--- what stands beside a refusal
-abbrev pub no_rates : SignedPair
-no_rates = signed_pair (pos 0) (pos 0)

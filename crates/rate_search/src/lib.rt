@@ -3,20 +3,17 @@
 // one at the first whose growth, rounded down, is past it.
 #![tactic(auto)]
 
-ghost use Rattle.std.specs.Prelude.{◌≡◌, ◌*◌, ◌<◌, ◌≤◌, min, true};
+ghost use Rattle.std.specs.Prelude.{◌≡◌, ℕ, ◌+◌, ◌*◌, ◌<◌, ◌≤◌, min, true, false};
 ghost use Rattle.fraction.specs.Rounding.{round_ℕ};
 ghost use Rattle.method.specs.Units.{pair, rate_unit};
-ghost use Rattle.method.specs.Grounds.{no_high_rate, refused};
 ghost use Rattle.zero_rates.specs.Rates.{low_multiplier, rate_of, zero_rates};
-ghost use Rattle.grounds.specs.Verdicts.{as_outcome, result_or};
+ghost use Rattle.grounds.specs.Answers.{outcome_of};
 ghost use Rattle.rounding.specs.Pairs.{as_signed_pair};
-ghost use Rattle.rate_search.specs.Search.{unit_squared, cap, GrowthsOf, within, confirmed, Turns, Halved, no_rates};
+ghost use Rattle.rate_search.specs.Search.{unit_squared, cap, GrowthsOf, within, confirmed, Between, Turns};
 
-use grounds::{Ground, Verdict};
-use rounding::SignedPair;
+use grounds::Ground;
+use rounding::{SignedPair, UNIT};
 use std::num::nearest_u64_to_f64;
-
-const UNIT: u64 = 1_000_000_000;
 
 const UNIT_SQUARED: u64 = 1_000_000_000_000_000_000;
 
@@ -32,11 +29,12 @@ struct Growths {
     next: u64,
 }
 
-// All zero where there is no high rate.
+// Where the growth over some years comes to pass a bound: rounded up, or down.
 #[derive(Clone, Copy)]
-pub struct Rated {
-    pub verdict: Verdict,
-    pub rates: SignedPair,
+struct Search {
+    years: u64,
+    bound: u64,
+    up: bool,
 }
 
 // ---- growth
@@ -49,7 +47,7 @@ fn year_on(g: u64, m: u64, up: bool) -> u64
     if g < 90_000_000_000_000 {
         return rounding::quotient(g * m, RATE_UNIT, up);
     }
-    rounding::smaller(rounding::split_quotient(g, m, RATE_UNIT, up), CAP)
+    rounding::split_quotient(g, m, RATE_UNIT, up).min(CAP)
 }
 
 // At m and at m + 1 in one loop, as neither waits for the other.
@@ -59,16 +57,11 @@ fn grow(m: u64, years: u64, up: bool) -> Growths
 {
     let mut here = UNIT;
     let mut next = UNIT;
-    let mut year = 0;
-    while year < years {
+    for _ in 0..years {
         here = year_on(here, m, up);
         next = year_on(next, m + 1, up);
-        year = year + 1;
     }
-    Growths {
-        here: here,
-        next: next,
-    }
+    Growths { here, next }
 }
 
 // Growth by squaring, in floating point: nearly right, and so only a guess.
@@ -80,39 +73,29 @@ fn nearly(m: u64, years: u64) -> f64
     let mut left = years;
     while 0 < left {
         if left % 2 == 1 {
-            product = product * square;
+            product *= square;
         }
-        square = square * square;
-        left = left / 2;
+        square *= square;
+        left /= 2;
     }
     product
 }
 
-// Whether a multiplier's growth is within the bound: by the exact growth, or by the guess.
-fn rises(m: u64, years: u64, bound: u64, up: bool, exact: bool) -> bool
-    requires { (m ≤ 200_000) × (bound ≤ unit_squared) }
-    ensures { exact ≡ true → result ≡ within up years bound m }
-{
-    if exact {
-        let g = grow(m, years, up);
-        g.here <= bound
-    } else {
-        nearly(m, years) <= nearest_u64_to_f64(bound)
-    }
-}
-
 // ---- the search
 
-// Halves until the ends are 1 apart, and hands back the lower.
-fn halve(lo: u64, hi: u64, years: u64, bound: u64, up: bool, exact: bool) -> u64
-    requires { (lo < hi) × (hi ≤ 200_001) × (bound ≤ unit_squared) }
-    ensures { Halved exact up years bound lo hi result }
+// Halves until the ends are 1 apart, by whether the middle becomes the lower end, and hands back the lower.
+fn halve<F: Fn(u64) -> bool>(rises: F, lo: u64, hi: u64) -> u64
+    requires ends { lo < hi }
+    requires callable { (m : ℕ) → lo < m → m < hi → F.pre rises m }
+    ensures between { Between lo hi result }
+    ensures here { lo < result → F.post rises result true }
+    ensures next { result + 1 < hi → F.post rises (result + 1) false }
 {
     let mut below = lo;
     let mut above = hi;
     while 1 < above - below {
         let middle = below + (above - below) / 2;
-        if rises(middle, years, bound, up, exact) {
+        if rises(middle) {
             below = middle;
         } else {
             above = middle;
@@ -121,37 +104,47 @@ fn halve(lo: u64, hi: u64, years: u64, bound: u64, up: bool, exact: bool) -> u64
     below
 }
 
-// Whether the growth comes to pass the bound right after m.
-fn turns(m: u64, hi: u64, years: u64, bound: u64, up: bool) -> bool
-    requires { (m < hi) × (hi ≤ 200_001) × (bound ≤ unit_squared) }
-    ensures { result ≡ confirmed up years bound hi m }
-{
-    let g = grow(m, years, up);
-    if bound < g.here {
-        return false;
+impl Search {
+    // By the guess.
+    fn nearly_within(&self, m: u64) -> bool
+        requires { m ≤ 200_000 }
+    {
+        nearly(m, self.years) <= nearest_u64_to_f64(self.bound)
     }
-    if m + 1 < hi {
-        return bound < g.next;
-    }
-    true
-}
 
-// `near` is tried first, if it lies between the ends, then the guess. Both are tested, and where both are wrong the exact growth finds
-// the place: that costs more than ten times as much, and is hardly ever needed.
-fn turning_point(near: u64, lo: u64, hi: u64, years: u64, bound: u64, up: bool) -> u64
-    requires { (lo < hi) × (hi ≤ 200_001) × (bound ≤ unit_squared) }
-    ensures { Turns up years bound lo hi result }
-{
-    if lo <= near && near < hi {
-        if turns(near, hi, years, bound, up) {
+    // By the exact growth.
+    fn within(&self, m: u64) -> bool
+        requires { (m ≤ 200_000) × (self.now.bound ≤ unit_squared) }
+        ensures { result ≡ within self.now.up self.now.years self.now.bound m }
+    {
+        let g = grow(m, self.years, self.up);
+        g.here <= self.bound
+    }
+
+    // Whether the growth comes to pass the bound right after m.
+    fn turns(&self, m: u64, hi: u64) -> bool
+        requires { (m < hi) × (hi ≤ 200_001) × (self.now.bound ≤ unit_squared) }
+        ensures { result ≡ confirmed self.now.up self.now.years self.now.bound hi m }
+    {
+        let g = grow(m, self.years, self.up);
+        g.here <= self.bound && (hi <= m + 1 || self.bound < g.next)
+    }
+
+    // `near` is tried first, if it lies between the ends, then the guess. Both are tested, and where both are wrong the exact growth
+    // finds the place: that costs more than ten times as much, and is hardly ever needed.
+    fn turning_point(&self, near: u64, lo: u64, hi: u64) -> u64
+        requires { (lo < hi) × (hi ≤ 200_001) × (self.now.bound ≤ unit_squared) }
+        ensures { Turns self.now.up self.now.years self.now.bound lo hi result }
+    {
+        if lo <= near && near < hi && self.turns(near, hi) {
             return near;
         }
+        let guess = halve(|m| self.nearly_within(m), lo, hi);
+        if self.turns(guess, hi) {
+            return guess;
+        }
+        halve(|m| self.within(m), lo, hi)
     }
-    let guess = halve(lo, hi, years, bound, up, false);
-    if turns(guess, hi, years, bound, up) {
-        return guess;
-    }
-    halve(lo, hi, years, bound, up, true)
 }
 
 // The largest multiplier whose growth, rounded up, times the high is at most U × U. Of a high of 0 it is the greatest. It is often the
@@ -162,7 +155,12 @@ fn low_multiplier(high: u64, years: u64, short: u64) -> u64
     if high == 0 {
         return 200_000;
     }
-    turning_point(short, 50_000, 200_001, years, UNIT_SQUARED / high, true)
+    let stays = Search {
+        years,
+        bound: UNIT_SQUARED / high,
+        up: true,
+    };
+    stays.turning_point(short, 50_000, 200_001)
 }
 
 fn rate(multiplier: u64) -> i64
@@ -172,33 +170,24 @@ fn rate(multiplier: u64) -> i64
     multiplier as i64 - 100_000
 }
 
-fn no_rates() -> Rated
-    ensures verdict { as_outcome result.verdict (as_signed_pair result.rates) ≡ refused no_high_rate }
-    ensures beside { as_signed_pair result.rates ≡ no_rates }
-{
-    Rated {
-        verdict: Verdict::Refused(Ground::NoHighRate),
-        rates: SignedPair { low: 0, high: 0 },
-    }
-}
-
 // 17, or the rates. The multiplier past the last one that falls short is the high rate's; a low of 0 falls short at all.
-pub fn zero_rates(years: u64, low: u64, high: u64) -> Rated
-    ensures outcome { as_outcome result.verdict (as_signed_pair result.rates) ≡ zero_rates years (pair low high) }
-    ensures beside { as_signed_pair result.rates ≡ result_or no_rates (zero_rates years (pair low high)) }
+pub fn zero_rates(years: u64, low: u64, high: u64) -> Result<SignedPair, Ground>
+    ensures { outcome_of as_signed_pair result ≡ zero_rates years (pair low high) }
 {
     if low == 0 {
-        return no_rates();
+        return Err(Ground::NoHighRate);
     }
-    let short = turning_point(0, 49_999, 200_001, years, (UNIT_SQUARED - 1) / low, false);
+    let misses = Search {
+        years,
+        bound: (UNIT_SQUARED - 1) / low,
+        up: false,
+    };
+    let short = misses.turning_point(0, 49_999, 200_001);
     if 200_000 <= short {
-        return no_rates();
+        return Err(Ground::NoHighRate);
     }
-    Rated {
-        verdict: Verdict::Passed,
-        rates: SignedPair {
-            low: rate(low_multiplier(high, years, short)),
-            high: rate(short + 1),
-        },
-    }
+    Ok(SignedPair {
+        low: rate(low_multiplier(high, years, short)),
+        high: rate(short + 1),
+    })
 }

@@ -1,66 +1,44 @@
--- A verdict as one number; and what the C functions return, case by case.
-use mathlib.Core.Bool.{Bool, true, false}
+-- What the C functions return, case by case.
 use mathlib.Core.List.{List, ◌++◌}
-use mathlib.Core.Path.{◌≡◌, refl, ap, sym, subst, ◌∙◌}
-use Prim.Native.Nat.{ℕ, ◌+◌, ◌*◌, ◌≤◌, ◌<◌}
+use mathlib.Core.Path.{◌≡◌, ap, sym, subst⁻¹, ◌∙◌}
+use Prim.Native.Nat.{ℕ, ◌≤◌}
 use native.Mathlib.Omega.{arith}
-use lib.Dec.{T}
 use lib.IntN.{ℤ}
 use lib.ListN.{length, drop, length-append}
-use borrow.Author.Tests.{le-leb, lt-leb}
+use borrow.Author.Tests.{le-leb}
 use Rattle.method.specs.Bytes.{in_bytes, twos_complement32, put_at}
-use Rattle.method.specs.Grounds.{Outcome, refused, done}
-use Rattle.method.proofs.Places.{number_small}
+use Rattle.method.specs.Grounds.{place_of, Outcome, refused, done}
 use Rattle.ledger.specs.Answers as answer
 use Rattle.ledger.specs.Answers.{answer_place}
-use Rattle.ledger.specs.Book.{Book, Paged}
-use Rattle.ledger.specs.Calls.{post_of, turn_to, withdrawal, look_at, page_into, value_of, asks}
+use Rattle.ledger.specs.Book.{Book}
+use Rattle.ledger.specs.Calls.{Question, AnswerTo, answered, post_of, turn_to, withdrawal, look_at, page_into, value_of, asks}
+use Rattle.ledger.specs.Tells.{Tells}
 use Rattle.ledger.proofs.Places.{answer_place_lem}
+use Rattle.ledger.proofs.Theorem.{demand_3}
 use Rattle.grounds.specs.declared.Ground.{Ground}
-use Rattle.grounds.specs.declared.Verdict.{Verdict}
-use Rattle.grounds.specs.declared.Verdict.TheVariants.{Passed, Refused}
-use Rattle.grounds.specs.Verdicts.{as_ground, as_outcome, verdict_number, verdict_place}
+use Rattle.grounds.specs.Answers.{as_ground}
 use Rattle.big_endian.proofs.Putting.{in_bytes-length, put_first, put_behind}
-use Rattle.book.specs.declared.Finding.{Finding}
-use Rattle.book.specs.Views.{as_finding, as_paged}
-use Rattle.journal.specs.Journal.{Front, whole, cut, unknown}
-use Rattle.journal.specs.Replies.{Reply, posted, turned, withdrawn, looked, cut_short, not_known, reply_to}
-use Rattle.journal.specs.Made.{as_reply}
-use Rattle.journal.specs.declared.Reply as code
-use Rattle.journal.specs.declared.Reply.TheVariants.{Posted, Turned, Withdrawn, Looked, CutShort, NotKnown}
-use Rattle.replay.specs.Returned.{returned, packed, dated_bytes, found_bytes, shift_bytes, reply_returned, page_returned, replied}
+use Rattle.journal.specs.Journal.{Front, whole, cut, unknown, decode}
+use Rattle.journal.specs.Replies.{reply_to}
+use Rattle.replay.specs.Returned.{book_after, count_of, returned, dated_bytes, found_bytes, shift_bytes, reply_returned, reply_place}
 
--- ---- a verdict as one number
+-- ---- what demand 3 tells of the book after some calls
 
-pub verdict_small : (v : Verdict) → verdict_number v < 256
-verdict_small Passed = omega arith
-verdict_small (Refused g) = number_small (as_ground g)
+pub told : (limit : ℕ) (calls : List ℕ) (q : Question) {b : Book} → b ≡ book_after limit calls → {a : AnswerTo q} → a ≡ answered b q →
+    Tells limit (count_of calls) q a
+told limit calls q e d =
+    subst⁻¹ (Tells limit (count_of calls) q) (d ∙ ap (λ (b : Book). answered b q) e) (demand_3 limit (decode calls) q)
 
-pub packed_is : {A : Type 0} (v : Verdict) (a : A) → packed (as_outcome v a) ≡ verdict_number v + 256 * verdict_place v
-packed_is Passed a = refl
-packed_is (Refused g) a = refl
+-- ---- a refusal's place
 
-pub place_is : {A : Type 0} (v : Verdict) (a : A) → answer_place (as_outcome v a) ≡ verdict_place v
-place_is Passed a = refl
-place_is (Refused g) a = refl
-
--- the place of what a call was answered
-pub place_small : {A : Type 0} (v : Verdict) (a : A) {o : Outcome A} → as_outcome v a ≡ o → answer_place o ≤ 1_000 → verdict_place v ≤ 1_000
-place_small v a e h = omega (arith, place_is v a, ap answer_place e)
+pub refused_place : {A : Type 0} (g : Ground) {o : Outcome A} → refused (as_ground g) ≡ o → answer_place o ≤ 1_000 → place_of (as_ground g) ≤ 1_000
+refused_place g e h = omega (arith, ap answer_place e)
 
 -- ---- a reply of so many bytes
 
-module _ {A : Type 0} (size : ℕ) (bytes : A → List ℕ) (lent : List ℕ) {o : Outcome A} where
-  pub reply_refused : {v : Verdict} {g : Ground} {n : ℕ} → v ≡ Refused g → o ≡ refused (as_ground g) → n ≡ verdict_number v + 256 * verdict_place v →
-      returned n lent ≡ reply_returned size bytes o lent
-  reply_refused told e n = rw (n, told, e)
-
-  module _ (a : A) (e : o ≡ done a) where
-    pub reply_short : length lent < size → returned 15 lent ≡ reply_returned size bytes o lent
-    reply_short h = rw (e, lt-leb size (length lent) h)
-
-    pub reply_written : (exit : List ℕ) → exit ≡ bytes a ++ drop size lent → size ≤ length lent → returned 0 exit ≡ reply_returned size bytes o lent
-    reply_written exit w h = rw (e, le-leb size (length lent) h, w)
+pub reply_written : {A : Type 0} (size : ℕ) (bytes : A → List ℕ) (lent : List ℕ) {o : Outcome A} (a : A) → o ≡ done a → (exit : List ℕ) →
+    exit ≡ bytes a ++ drop size lent → size ≤ length lent → returned 0 exit ≡ reply_returned size bytes o lent
+reply_written size bytes lent a e exit w h = rw (e, le-leb size (length lent) h, w)
 
 -- ---- a shift's
 
@@ -140,23 +118,9 @@ module _ (f : answer.Finding) (lent : List ℕ) (room : 28 ≤ length lent) wher
       let to-high-rate = put_behind (front ++ low_rate) high_rate lent 24 long_low_rate (omega arith) to-low-rate (rw eh at e₃) in
       to-high-rate ∙ put_first (found_bytes f) lent ∙ ap (λ (n : ℕ). found_bytes f ++ drop n lent) long_reply
 
--- ---- a page
+-- ---- one more call
 
-pub page-returned : (v : Verdict) (exit : List ℕ) {p : Paged} {n : ℕ} → as_paged v exit ≡ p → n ≡ verdict_number v + 256 * verdict_place v →
-    returned n exit ≡ page_returned p
-page-returned v exit e n = ap (λ (k : ℕ). returned k exit) (n ∙ sym (packed_is v tt)) ∙ ap page_returned e
-
--- ---- one more call: the verdict is that of its reply
-
-abbrev reply_place : Reply → ℕ
-reply_place (posted o) = answer_place o
-reply_place (turned o) = answer_place o
-reply_place (withdrawn o) = answer_place o
-reply_place (looked y o) = answer_place o
-reply_place cut_short = 0
-reply_place not_known = 0
-
-reply_place_lem : (b : Book) (f : Front) → reply_place (reply_to b f) ≤ 1_000
+pub reply_place_lem : (b : Book) (f : Front) → reply_place (reply_to b f) ≤ 1_000
 reply_place_lem b (whole (post_of s) n) = answer_place_lem b (post_of s)
 reply_place_lem b (whole (turn_to m) n) = answer_place_lem b (turn_to m)
 reply_place_lem b (whole withdrawal n) = answer_place_lem b withdrawal
@@ -165,29 +129,3 @@ reply_place_lem b (whole (asks (page_into w l)) n) = omega arith
 reply_place_lem b (whole (asks (value_of fs)) n) = omega arith
 reply_place_lem b cut = omega arith
 reply_place_lem b unknown = omega arith
-
--- where a call was made
-abbrev pub called : code.Reply → Bool
-called Posted = true
-called Turned = true
-called Withdrawn = true
-called (Looked y) = true
-called CutShort = false
-called NotKnown = false
-
-module _ (v : Verdict) (m : ℕ) (d : Finding) where
-  verdict_of : (x : code.Reply) → called x ≡ true →
-      (verdict_number v + 256 * verdict_place v ≡ replied (as_reply x v m d)) × (verdict_place v ≡ reply_place (as_reply x v m d))
-  verdict_of Posted h = (sym (packed_is v m), sym (place_is v m))
-  verdict_of Turned h = (sym (packed_is v m), sym (place_is v m))
-  verdict_of Withdrawn h = (sym (packed_is v tt), sym (place_is v tt))
-  verdict_of (Looked y) h = (sym (packed_is v (as_finding d)), sym (place_is v (as_finding d)))
-  verdict_of CutShort h = absurd (subst T (sym h) tt)
-  verdict_of NotKnown h = absurd (subst T (sym h) tt)
-
-  module _ (x : code.Reply) (b : Book) (f : Front) (e : as_reply x v m d ≡ reply_to b f) where
-    pub call_number : called x ≡ true → verdict_number v + 256 * verdict_place v ≡ replied (reply_to b f)
-    call_number h = (verdict_of x h).0 ∙ ap replied e
-
-    pub call_place : called x ≡ true → verdict_place v ≤ 1_000
-    call_place h = omega (arith, (verdict_of x h).1, ap reply_place e, reply_place_lem b f)

@@ -100,3 +100,12 @@ replied (withdrawn o) = packed o
 replied (looked y o) = packed o
 replied cut_short = 255
 replied not_known = 255
+
+-- the place in it; 0 where none stands
+abbrev pub reply_place : Reply → ℕ
+reply_place (posted o) = answer_place o
+reply_place (turned o) = answer_place o
+reply_place (withdrawn o) = answer_place o
+reply_place (looked y o) = answer_place o
+reply_place cut_short = 0
+reply_place not_known = 0

@@ -3,66 +3,66 @@
 #![tactic(auto)]
 
 ghost use Rattle.std.specs.Prelude.{◌≡◌, ◌++◌, ◌+◌, ◌*◌, ◌≤◌, length, drop};
+ghost use Rattle.method.specs.Grounds.{number_of, place_of};
 ghost use Rattle.shift.specs.Meaning.{ShiftTells};
 ghost use Rattle.ledger.specs.Calls.{look_at, page_into, value_of};
 ghost use Rattle.ledger.specs.Tells.{Tells};
 ghost use Rattle.ledger.specs.Demands.{Demand3, Withdraws};
-ghost use Rattle.grounds.specs.Verdicts.{result_or, verdict_number, verdict_place};
+ghost use Rattle.grounds.specs.Answers.{as_ground};
+ghost use Rattle.grounds.specs.Answers.{outcome_of, refusal_number, refusal_place};
 ghost use Rattle.block.specs.Views.{paired};
-ghost use Rattle.book.specs.Views.{as_which, as_wanted, as_book, as_finding, as_looked, no_finding, as_paged, as_valued};
-ghost use Rattle.book.specs.Steps.{ValuedAs};
+ghost use Rattle.book.specs.Views.{as_which, as_wanted, as_book, as_finding, as_value, paged_by};
 ghost use Rattle.journal.specs.Journal.{front, decode};
 ghost use Rattle.journal.specs.Replies.{reply_to};
+ghost use Rattle.journal.specs.Made.{as_replied};
 ghost use Rattle.replay.specs.Returned.{book_after, look_after, page_after, value_after, look_by, count_of, by_kind, wanted_by, dated_bytes, found_bytes};
-ghost use Rattle.replay.specs.Returned.{returned, look_returned, page_returned, value_returned, shift_by, shift_returned, replied};
+ghost use Rattle.replay.specs.Returned.{returned, look_returned, page_returned, value_returned, shift_by, shift_returned, replied, reply_place};
 
 use big_endian::{put, twos_complement};
-use book::{Book, Finding, Looked, Valued, Wanted, Which};
-use grounds::Verdict;
-use journal::Reply;
+use book::{Book, Finding, Value, Wanted, Which};
+use grounds::Ground;
+use journal::{Made, NoCall, Reply};
 
 // Makes all calls, from a fresh book of this age limit on.
 pub fn replay(age_limit: u64, calls: &[u8]) -> Book
     ensures { as_book result ≡ book_after age_limit calls.now }
 {
-    let mut book = book::fresh(age_limit);
-    let mut at: usize = 0;
-    while at < calls.len() {
-        let made = journal::make(book, &calls[at..]);
-        book = made.book;
-        let taken = made.taken;
-        if taken == 0 {
-            return book;
-        }
-        at += taken;
+    let mut book = Book::fresh(age_limit);
+    let mut rest = calls;
+    while let Ok(made) = journal::make(&mut book, rest) {
+        rest = &rest[made.taken..];
     }
     book
 }
 
 // What a look-up answers after these calls.
-pub fn look_after(age_limit: u64, calls: &[u8], which: Which, wanted: Wanted, year: u64) -> Looked
-    ensures outcome { as_looked result ≡ look_after age_limit calls.now (as_which which) (as_wanted wanted) year }
-    ensures beside { as_finding result.finding ≡ result_or no_finding (look_after age_limit calls.now (as_which which) (as_wanted wanted) year) }
-    ensures told { Tells age_limit (count_of calls.now) (look_at (as_which which) (as_wanted wanted) year) (as_looked result) }
+pub fn look_after(
+    age_limit: u64,
+    calls: &[u8],
+    which: Which,
+    wanted: Wanted,
+    year: u64,
+) -> Result<Finding, Ground>
+    ensures outcome { outcome_of as_finding result ≡ look_after age_limit calls.now (as_which which) (as_wanted wanted) year }
+    ensures told { Tells age_limit (count_of calls.now) (look_at (as_which which) (as_wanted wanted) year) (outcome_of as_finding result) }
 {
-    book::look_up(replay(age_limit, calls), which, wanted, year)
+    replay(age_limit, calls).look_up(which, wanted, year)
 }
 
 // The page after these calls, written into a lent buffer.
-pub fn page_after(age_limit: u64, calls: &[u8], which: Which, out: &mut [u8]) -> Verdict
-    ensures paged { as_paged result out.new ≡ page_after age_limit calls.now (as_which which) out.old }
-    ensures told { Tells age_limit (count_of calls.now) (page_into (as_which which) out.old) (as_paged result out.new) }
+pub fn page_after(age_limit: u64, calls: &[u8], which: Which, out: &mut [u8]) -> Result<(), Ground>
+    ensures paged { paged_by result out.new ≡ page_after age_limit calls.now (as_which which) out.old }
+    ensures told { Tells age_limit (count_of calls.now) (page_into (as_which which) out.old) (paged_by result out.new) }
 {
-    let book = replay(age_limit, calls);
-    book::page(book, which, out)
+    replay(age_limit, calls).page(which, out)
 }
 
 // What a valuation of plain numbers, year and cents in turn, answers after these calls.
-pub fn value_after(age_limit: u64, calls: &[u8], numbers: &[u64]) -> Valued
-    ensures valued { ValuedAs (book_after age_limit calls.now) (paired numbers.now) result }
-    ensures told { Tells age_limit (count_of calls.now) (value_of (paired numbers.now)) (as_valued result) }
+pub fn value_after(age_limit: u64, calls: &[u8], numbers: &[u64]) -> Result<Value, Ground>
+    ensures outcome { outcome_of as_value result ≡ value_after age_limit calls.now numbers.now }
+    ensures told { Tells age_limit (count_of calls.now) (value_of (paired numbers.now)) (outcome_of as_value result) }
 {
-    book::value_of_numbers(replay(age_limit, calls), numbers)
+    replay(age_limit, calls).value_of_numbers(numbers)
 }
 
 // ---- the same for programs in C
@@ -72,9 +72,10 @@ fn which_by(kind: u64) -> Which
     ensures { as_which result ≡ by_kind kind }
 {
     if kind % 2 == 1 {
-        return Which::Adjusted;
+        Which::Adjusted
+    } else {
+        Which::Plain
     }
-    Which::Plain
 }
 
 // Bit 1 asks for the sum; all others are ignored.
@@ -82,9 +83,10 @@ fn wanted_by(kind: u64) -> Wanted
     ensures { as_wanted result ≡ wanted_by kind }
 {
     if kind / 2 % 2 == 1 {
-        return Wanted::Sum;
+        Wanted::Sum
+    } else {
+        Wanted::Factor
     }
-    Wanted::Factor
 }
 
 // What starts every reply: each number straight to its own bytes.
@@ -108,15 +110,43 @@ fn put_found(f: Finding, out: &mut [u8])
     put(twos_complement(f.high_rate), 4, 24, out);
 }
 
-// A place is at most 1,000, an entry of a list.
-fn packed(verdict: Verdict) -> u64
-    requires { verdict_place verdict ≤ 1_000 }
-    ensures { result ≡ verdict_number verdict + 256 * verdict_place verdict }
+// A refusal as one number. A place is at most 1,000, an entry of a list.
+fn packed(g: Ground) -> u64
+    requires { place_of (as_ground g) ≤ 1_000 }
+    ensures { result ≡ number_of (as_ground g) + 256 * place_of (as_ground g) }
 {
-    grounds::number(verdict) + 256 * grounds::place(verdict)
+    g.number() + 256 * g.place()
+}
+
+// 0 where the call passed.
+fn answered<T>(answer: &Result<T, Ground>) -> u64
+    requires { refusal_place answer.now ≤ 1_000 }
+    ensures { result ≡ refusal_number answer.now + 256 * refusal_place answer.now }
+{
+    match answer {
+        Ok(_) => 0,
+        Err(g) => packed(*g),
+    }
+}
+
+// Of one more call; 255 where none was made.
+fn replied(made: Result<Made, NoCall>) -> u64
+    requires { reply_place (as_replied made) ≤ 1_000 }
+    ensures { result ≡ replied (as_replied made) }
+{
+    let Ok(made) = made else {
+        return 255;
+    };
+    match made.reply {
+        Reply::Posted(answer) => answered(&answer),
+        Reply::Turned(answer) => answered(&answer),
+        Reply::Withdrawn(answer) => answered(&answer),
+        Reply::Looked(_, answer) => answered(&answer),
+    }
 }
 
 // A buffer that is too short is tried last.
+#[tactic(auto, using(ledger::proofs::Theorem::demand_3))]
 pub fn tuyqorem_look_after(
     age_limit: u64,
     calls: &[u8],
@@ -127,42 +157,38 @@ pub fn tuyqorem_look_after(
     ensures returned { returned result out.new ≡ look_returned (look_by age_limit calls.now kind year) out.old }
     ensures told { Demand3 age_limit (decode calls.now) }
 {
-    let looked = look_after(age_limit, calls, which_by(kind), wanted_by(kind), year);
-    let verdict = looked.verdict;
-    let Verdict::Passed = verdict else {
-        return packed(verdict);
-    };
-    if out.len() < 28 {
-        return 15;
+    match look_after(age_limit, calls, which_by(kind), wanted_by(kind), year) {
+        Err(g) => packed(g),
+        Ok(_) if out.len() < 28 => 15,
+        Ok(finding) => {
+            put_found(finding, out);
+            0
+        }
     }
-    let finding = looked.finding;
-    put_found(finding, out);
-    0
 }
 
+#[tactic(auto, using(ledger::proofs::Theorem::demand_3))]
 pub fn tuyqorem_page_after(age_limit: u64, calls: &[u8], kind: u64, out: &mut [u8]) -> u64
     ensures returned { returned result out.new ≡ page_returned (page_after age_limit calls.now (by_kind kind) out.old) }
     ensures told { Demand3 age_limit (decode calls.now) }
 {
-    packed(page_after(age_limit, calls, which_by(kind), out))
+    answered(&page_after(age_limit, calls, which_by(kind), out))
 }
 
 // Year and cents in turn; an odd count is no list.
+#[tactic(auto, using(ledger::proofs::Theorem::demand_3))]
 pub fn tuyqorem_value_after(age_limit: u64, calls: &[u8], flows: &[u64], out: &mut [u8]) -> u64
     ensures returned { returned result out.new ≡ value_returned (value_after age_limit calls.now flows.now) out.old }
     ensures told { Demand3 age_limit (decode calls.now) }
 {
-    let valued = value_after(age_limit, calls, flows);
-    let verdict = valued.verdict;
-    let Verdict::Passed = verdict else {
-        return packed(verdict);
-    };
-    if out.len() < 20 {
-        return 15;
+    match value_after(age_limit, calls, flows) {
+        Err(g) => packed(g),
+        Ok(_) if out.len() < 20 => 15,
+        Ok(value) => {
+            put_dated(value.low, value.high, value.month, value.age, out);
+            0
+        }
     }
-    let value = valued.value;
-    put_dated(value.low, value.high, value.month, value.age, out);
-    0
 }
 
 // Of a sheet and a list by themselves: no book is asked.
@@ -170,16 +196,14 @@ pub fn tuyqorem_shift(sheet: &[u8], flows: &[u64], target: u64, out: &mut [u8]) 
     ensures returned { returned result out.new ≡ shift_returned (shift_by sheet.now flows.now target) out.old }
     ensures told { ShiftTells sheet.now (paired flows.now) target (shift_by sheet.now flows.now target) }
 {
-    let found = shift_search::shift_of_numbers(sheet, flows, target);
-    let verdict = found.verdict;
-    let Verdict::Passed = verdict else {
-        return packed(verdict);
-    };
-    if out.len() < 2 {
-        return 15;
+    match shift_search::shift_of_numbers(sheet, flows, target) {
+        Err(g) => packed(g),
+        Ok(_) if out.len() < 2 => 15,
+        Ok(shift) => {
+            put(twos_complement(shift), 2, 0, out);
+            0
+        }
     }
-    put(twos_complement(found.shift), 2, 0, out);
-    0
 }
 
 // The answer of one more call, the first record of `call`; 255 where that is no whole record.
@@ -187,15 +211,6 @@ pub fn tuyqorem_answer_after(age_limit: u64, calls: &[u8], call: &[u8]) -> u64
     ensures returned { result ≡ replied (reply_to (book_after age_limit calls.now) (front call.now)) }
     ensures told { Withdraws age_limit (decode calls.now) }
 {
-    let made = journal::make(replay(age_limit, calls), call);
-    let reply = made.reply;
-    let verdict = made.verdict;
-    match reply {
-        Reply::Posted => packed(verdict),
-        Reply::Turned => packed(verdict),
-        Reply::Withdrawn => packed(verdict),
-        Reply::Looked(_) => packed(verdict),
-        Reply::CutShort => 255,
-        Reply::NotKnown => 255,
-    }
+    let mut book = replay(age_limit, calls);
+    replied(journal::make(&mut book, call))
 }

@@ -1,4 +1,3 @@
-pub mod Signed
 pub mod Bounds
 pub mod Remainder
 pub mod Division

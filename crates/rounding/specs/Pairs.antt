@@ -1,9 +1,14 @@
 -- The declared pairs as the method's.
-use Rattle.std.specs.Prelude.{ℕ, ◌≤◌, nat_abs}
+use Rattle.std.specs.Prelude.{ℕ, ℤ, ◌≤◌, nat_abs}
 use Rattle.method.specs.Units as method
 use Rattle.method.specs.Units.{pair, signed_pair}
-use Rattle.rounding.specs.declared.Pair.{Pair}
-use Rattle.rounding.specs.declared.SignedPair.{SignedPair}
+use Rattle.rounding.specs.declared.Ends.{Ends}
+
+abbrev pub Pair : Type 0
+Pair = Ends ℕ
+
+abbrev pub SignedPair : Type 0
+SignedPair = Ends ℤ
 
 abbrev pub as_pair : Pair → method.Pair
 as_pair p = pair p.low p.high

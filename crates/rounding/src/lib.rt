@@ -2,26 +2,32 @@
 // high with it, and a low without.
 #![tactic(auto)]
 
-ghost use Rattle.std.specs.Prelude.{◌≡◌, ◌+◌, ◌*◌, ◌/◌, ◌^◌, ◌≤◌, ◌<◌, min, pos, nat_abs, ◌<ℤ◌};
-ghost use Rattle.fraction.specs.Rounding.{U, floor, ceiling, round_ℤ, round_ℕ};
+ghost use Rattle.std.specs.Prelude.{◌≡◌, ◌+◌, ◌*◌, ◌/◌, ◌^◌, ◌≤◌, ◌<◌, pos, nat_abs, ◌<ℤ◌};
+ghost use Rattle.fraction.specs.Rounding.{U, ceiling, round_ℤ, round_ℕ};
 ghost use Rattle.method.specs.Units.{end_of};
 ghost use Rattle.rounding.specs.Pairs.{as_pair};
 
 // U of the definitions.
-const UNIT: u64 = 1_000_000_000;
+pub const UNIT: u64 = 1_000_000_000;
 
-// Factors and yearly factors.
+// A low and a high.
 #[derive(Clone, Copy)]
-pub struct Pair {
-    pub low: u64,
-    pub high: u64,
+pub struct Ends<T> {
+    pub low: T,
+    pub high: T,
 }
 
+// Factors and yearly factors.
+pub type Pair = Ends<u64>;
+
 // Logarithms and forwards, of either sign.
+pub type SignedPair = Ends<i64>;
+
+// So many of them, the lows and the highs apart.
 #[derive(Clone, Copy)]
-pub struct SignedPair {
-    pub low: i64,
-    pub high: i64,
+pub struct Pairs<T, const N: usize> {
+    pub lows: [T; N],
+    pub highs: [T; N],
 }
 
 // The high, or the low.
@@ -31,23 +37,16 @@ pub fn end(p: Pair, up: bool) -> u64
     if up { p.high } else { p.low }
 }
 
-pub fn smaller(a: u64, b: u64) -> u64
-    ensures { result ≡ min a b }
-{
-    if a < b { a } else { b }
-}
-
-// a and b leave room for the sum that the definition divides.
 pub fn quotient(a: u64, b: u64, up: bool) -> u64
-    requires { (0 < b) × (a + b ≤ 2 ^ 64) }
+    requires { 0 < b }
     ensures { result ≡ round_ℕ up a b }
 {
-    if up { (a + (b - 1)) / b } else { a / b }
+    if up { a.div_ceil(b) } else { a / b }
 }
 
 // a * m / b, whose product may not fit: the whole b's of a need no rounding, and leave a rest that fits.
 pub fn split_quotient(a: u64, m: u64, b: u64, up: bool) -> u64
-    requires { (0 < b) × (b * m + b ≤ 2 ^ 64) × ((a / b + 1) * m < 2 ^ 64) }
+    requires { (0 < b) × (b * m ≤ 2 ^ 64) × ((a / b + 1) * m < 2 ^ 64) }
     ensures { result ≡ round_ℕ up (a * m) b }
 {
     (a / b) * m + quotient((a % b) * m, b, up)
@@ -61,16 +60,8 @@ pub fn scale(a: u64, x: u64, up: bool) -> u64
     quotient(a * x, UNIT, up)
 }
 
-// Toward minus infinity. The machine's quotient goes toward zero: a remainder below zero says that it went up.
-fn floor_div(a: i64, b: i64) -> i64
-    requires { pos 0 <ℤ b }
-    ensures { result ≡ floor a (nat_abs b) }
-{
-    let q = a / b;
-    if a % b < 0 { q - 1 } else { q }
-}
-
-// Toward plus infinity. Not by negation, as the definition: the least i64 has no negative.
+// Toward plus infinity: the machine's quotient goes toward zero, and a remainder above zero says that it went down. Not by negation, as
+// the definition: the least i64 has no negative.
 fn ceil_div(a: i64, b: i64) -> i64
     requires { pos 0 <ℤ b }
     ensures { result ≡ ceiling a (nat_abs b) }
@@ -83,5 +74,5 @@ pub fn signed_quotient(a: i64, b: i64, up: bool) -> i64
     requires { pos 0 <ℤ b }
     ensures { result ≡ round_ℤ up a (nat_abs b) }
 {
-    if up { ceil_div(a, b) } else { floor_div(a, b) }
+    if up { ceil_div(a, b) } else { a.div_euclid(b) }
 }

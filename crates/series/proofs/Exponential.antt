@@ -31,14 +31,13 @@ growth_below false h = growth_most false h
 -- ---- the loop: the terms before i and those that are left make the whole
 
 pub record Grown (y : ℕ) (up : Bool) (t sum i : ℕ) : Type 0 where
-  pub turns : i ≤ 8
   pub started : 1 ≤ i
   pub term : t ≤ U
   pub whole : sum + growth_sum (round_ℕ up) y i t (8 - i) ≡ growth (round_ℕ up) y
 
 pub at_start : (y : ℕ) (up : Bool) → Grown y up U U 1
 unfolding growth
-at_start y up = record { turns = omega arith; started = omega arith; term = omega arith; whole = refl }
+at_start y up = record { started = omega arith; term = omega arith; whole = refl }
 
 module _ {y : ℕ} {up : Bool} {t sum i : ℕ} (d : Grown y up t sum i) where
   more : i < 8 → growth_sum (round_ℕ up) y i t (8 - i)
@@ -52,7 +51,6 @@ module _ {y : ℕ} {up : Bool} {t sum i : ℕ} (d : Grown y up t sum i) where
   pub after_term : y ≤ growth_range → i < 8 → Grown y up (round_ℕ up (t * y) (i * U)) (sum + round_ℕ up (t * y) (i * U)) (i + 1)
   after_term hy h =
       record {
-        turns = omega arith;
         started = omega arith;
         term = t-≤ (side_below up) d.started d.term hy;
         whole = omega (arith, d.whole, more h);

@@ -30,7 +30,6 @@ size up x = logarithm (round_ℕ up) (distance x) x
 -- ---- the loop: the terms before i and those that are left make the whole
 
 pub record Summed (up : Bool) (x s p sum i : ℕ) : Type 0 where
-  pub turns : i ≤ 5
   pub square : s ≤ s_bound
   pub power : p ≤ z_bound
   pub small : size up x < logarithm_bound
@@ -47,7 +46,6 @@ module _ (up : Bool) {x : ℕ} (l : lower_end ≤ x) (h : x ≤ upper_end) where
   unfolding logarithm
   at_start {z} {s} ez es =
       record {
-        turns = omega arith;
         square = rw es (s-≤ (side_below up) (z_bound_lem ez));
         power = z_bound_lem ez;
         small = logarithm-≤ (side_below up) (distance x) x ninth;
@@ -66,7 +64,6 @@ module _ {up : Bool} {x s p sum i : ℕ} (d : Summed up x s p sum i) where
   pub after_term : i < 5 → Summed up x s (round_ℕ up (p * s) U) (sum + round_ℕ up p (2 * i + 1)) (i + 1)
   after_term h =
       record {
-        turns = omega arith;
         square = d.square;
         power = le_trans (p-≤ (side_below up) p d.square) d.power;
         small = d.small;

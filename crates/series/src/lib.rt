@@ -10,10 +10,7 @@ ghost use Rattle.method.specs.Series.{added, logarithm, G, gap_forward, ultimate
 ghost use Rattle.rounding.specs.Pairs.{as_pair, as_signed_pair, SizeAtMost};
 ghost use Rattle.series.specs.Sides.{growth_by, negated};
 
-use rounding::{Pair, SignedPair};
-
-// U of the definitions.
-const UNIT: u64 = 1_000_000_000;
+use rounding::{Pair, SignedPair, UNIT};
 
 // The terms of the logarithm's sum, and of the growth's after t0.
 const LOG_TERMS: u64 = 5;
@@ -30,18 +27,12 @@ fn added(known: u64, x: u64) -> u64
 
 // ---- G(x) = -ln x (SPECIFICATION 4.1), and the forwards made from it (4.2)
 
-fn distance_to_unit(x: u64) -> u64
-    ensures { result ≡ (U - x) + (x - U) }
-{
-    if x <= UNIT { UNIT - x } else { x - UNIT }
-}
-
 // |ln x|, without what is added to the high.
 fn log_size(x: u64, up: bool) -> u64
     requires { (lower_end ≤ x) × (x ≤ upper_end) }
     ensures { (result ≡ logarithm (round_ℕ up) ((U - x) + (x - U)) x) × (result < logarithm_bound) }
 {
-    let z = rounding::quotient(distance_to_unit(x) * UNIT, UNIT + x, up);
+    let z = rounding::quotient(UNIT.abs_diff(x) * UNIT, UNIT + x, up);
     let s = rounding::scale(z, z, up);
     let mut p = z;
     let mut sum = 0;

@@ -1,5 +1,5 @@
 -- The layout by the tests of the code: the market and the length of its own records are the definition's.
-use mathlib.Core.Path.{◌≡◌, refl, ap₂, ◌∙◌}
+use mathlib.Core.Path.{◌≡◌, refl, ◌∙◌}
 use mathlib.Core.Bool.{Bool, true, false, not}
 use mathlib.Core.List.{List}
 use Prim.Native.Nat.{ℕ, ◌+◌, ◌≤◌, ◌<◌}
@@ -7,15 +7,15 @@ use native.Mathlib.Omega.{arith}
 use borrow.Author.Tests.{lt-ltb, le-ltb}
 use lib.Dec.{eqb, ltb}
 use lib.ListN.{length, get_or}
-use Rattle.method.specs.Sheet.{Profile, adjustable, names_profile, profile_of, layout_of}
+use Rattle.method.specs.Sheet.{Profile, adjustable, names_profile, shortest, profile_of, layout_of, size_of}
 use Rattle.method.proofs.Outcome.{split}
-use Rattle.method.proofs.Slots.{last_start}
+use Rattle.method.proofs.Slots.{size_is}
 use Rattle.method.proofs.Layouts.{layout, layout_is, first_bytes}
-use Rattle.sheet.specs.Records.{FirstBytes}
 
-module _ (s : List ℕ) {led : Bool} {p : Profile} {n : ℕ} (named : led ≡ names_profile s) (market : p ≡ profile_of s) (bytes : FirstBytes led p n) where
+module _ (s : List ℕ) {led : Bool} {p : Profile} {n : ℕ} (named : led ≡ names_profile s) (market : p ≡ profile_of s)
+    (bytes : n ≡ size_of (shortest led p)) where
   first : n ≡ first_bytes s
-  first = bytes.is ∙ ap₂ last_start named market
+  first = bytes ∙ rw (named, market) (size_is (shortest (names_profile s) (profile_of s)) ∙ omega arith)
 
   pub neither : length s ≤ n → layout led p false false ≡ layout_of s
   neither h =

@@ -1,2 +1,3 @@
+pub mod Markets
 pub mod Views
 pub mod Records

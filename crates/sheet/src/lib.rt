@@ -1,46 +1,27 @@
 // Reads a typed sheet of any bytes: its numbers, or the first of grounds 19 and 1 to 4.
 #![tactic(auto)]
 
-ghost use Rattle.std.specs.Prelude.{◌≡◌, true, cond, map, ◌+◌, ◌^◌, ◌<◌, ◌≤◌, ltb, pos, nat_abs, length, take, drop, get_or};
-ghost use Rattle.std.specs.Int.Signed.{non_neg};
-ghost use Rattle.method.specs.Grounds.{refused};
-ghost use Rattle.method.specs.Sheet.{kind_byte, maturity_bytes, number_bytes, body_length, lowest, highest, maturities, smoothing_year, adjustable};
-ghost use Rattle.method.specs.Sheet.{profile_by, names_profile, profile_of, profile_known, layout_of, size_of, slots_of, slot_at};
-ghost use Rattle.method.specs.Sheet.{body_of, twos_complement16, reading, number_of_record, right_record, in_range, first_failure, ultimate_index};
-ghost use Rattle.method.specs.Sheet.{rate, volume, total, numbers_of, read_sheet};
-ghost use Rattle.grounds.specs.Verdicts.{as_ground, as_outcome, result_or};
-ghost use Rattle.sheet.specs.Views.{as_profile, as_layout, as_kind, as_slot, as_numbers, no_numbers};
-ghost use Rattle.sheet.specs.Records.{MarketOf, FirstBytes, Due, end_of, in_kind, AllInside, Run, or_else};
+ghost use Rattle.std.specs.Prelude.{◌≡◌, cond, map, ◌+◌, ◌-◌, ◌^◌, ◌<◌, ◌≤◌, ltb, pos, nat_abs, length, take, get_or, unwrap_or, is_some};
+ghost use Rattle.method.specs.Sheet.{kind_byte, maturity_bytes, number_bytes, body_length, maturities, smoothing_year, adjustable};
+ghost use Rattle.method.specs.Sheet.{names_profile, profile_of, profile_known, layout_of, size_of, slots_of, slot_at};
+ghost use Rattle.method.specs.Sheet.{body_of, twos_complement16, reading, number_of_record, right_record, in_range, first_failure};
+ghost use Rattle.method.specs.Sheet.{month_index, volume_index, ultimate_index, rate, total, numbers_of, read_sheet};
+ghost use Rattle.method.specs.Ranges.{NumbersInRange};
+ghost use Rattle.grounds.specs.Answers.{outcome_of};
+ghost use Rattle.sheet.specs.Views.{as_profile, as_layout, as_kind, as_slot, as_numbers};
+ghost use Rattle.sheet.specs.Records.{MarketOf, Named, Due, end_of, in_kind, found, AllInside, Run};
 
-use grounds::{Ground, Verdict};
+mod numbers;
+
+use grounds::Ground;
+pub use numbers::Numbers;
 
 // The euro, or a market that smooths from 10 or from 15.
-#[derive(Clone, Copy)]
+#[derive(Clone, Copy, Debug, PartialEq, Eq)]
 pub enum Profile {
     Euro,
     FromTen,
     FromFifteen,
-}
-
-// The first rates and volumes, as many as the market has.
-#[derive(Clone, Copy)]
-pub struct Numbers {
-    pub profile: Profile,
-    pub month: u64,
-    pub rates: [i16; 17],
-    pub volumes: [u64; 5],
-    pub ultimate: u64,
-    pub limit: u64,
-    pub phase_in: u64,
-    pub adjusts: bool,
-    pub adjustment: i64,
-}
-
-// The numbers are all zero where the sheet is refused.
-#[derive(Clone, Copy)]
-pub struct ReadSheet {
-    pub verdict: Verdict,
-    pub numbers: Numbers,
 }
 
 // How many of the maturities a market quotes, and which of them, from 0, is the smoothing year.
@@ -60,7 +41,7 @@ pub struct Layout {
     pub adjusts: bool,
 }
 
-#[derive(Clone, Copy)]
+#[derive(Clone, Copy, Debug, PartialEq, Eq)]
 pub enum Kind {
     Month,
     Rate,
@@ -72,7 +53,7 @@ pub enum Kind {
     Profile,
 }
 
-// What is due at one place of the sheet.
+// What is due at one place of the sheet: a kind, and a maturity, 0 where the kind has none.
 #[derive(Clone, Copy)]
 pub struct Entry {
     pub kind: Kind,
@@ -82,18 +63,17 @@ pub struct Entry {
 // The same, with the byte at which the record starts.
 #[derive(Clone, Copy)]
 pub struct Slot {
-    pub kind: Kind,
-    pub maturity: u64,
+    pub due: Entry,
     pub start: usize,
 }
 
 // What a kind fixes: its byte, and how many bytes of the body are the maturity's and how many the number's.
 #[derive(Clone, Copy)]
-struct Form(u8, usize, usize);
-
-// The lowest number and the highest.
-#[derive(Clone, Copy)]
-struct Range(i64, i64);
+struct Form {
+    byte: u8,
+    maturity: usize,
+    number: usize,
+}
 
 // One record: whether its kind and maturity are due, whether its number is in range, the number, and the byte after the record.
 #[derive(Clone, Copy)]
@@ -104,12 +84,11 @@ struct Reading {
     next: usize,
 }
 
-// All records: the places of the first wrong one and of the first number outside, from 1; 0 where there is none.
-// As many numbers count as the layout has records.
+// All records: the places, from 1, of the first wrong one and of the first number outside. As many numbers count as the layout has records.
 #[derive(Clone, Copy)]
 struct Records {
-    wrong: u64,
-    outside: u64,
+    wrong: Option<u64>,
+    outside: Option<u64>,
     numbers: [i64; 28],
 }
 
@@ -124,40 +103,63 @@ pub fn maturity(i: usize) -> u64
     big_endian::wide(MATURITIES[i])
 }
 
-pub fn market_of(p: Profile) -> Market
-    ensures { MarketOf (as_profile p) result }
-{
-    match p {
-        Profile::Euro => Market {
-            quotes: 17,
-            smoothing: 12,
-        },
-        Profile::FromTen => Market {
-            quotes: 10,
-            smoothing: 9,
-        },
-        Profile::FromFifteen => Market {
-            quotes: 12,
-            smoothing: 11,
-        },
+impl Market {
+    // As many volumes as quotes from the smoothing year on.
+    pub fn volumes(self) -> usize
+        requires { self.smoothing ≤ self.quotes }
+        ensures { result ≡ self.quotes - self.smoothing }
+    {
+        self.quotes - self.smoothing
     }
 }
 
-pub fn smoothing_year(p: Profile) -> u64
-    ensures { result ≡ smoothing_year (as_profile p) }
-{
-    let market = market_of(p);
-    maturity(market.smoothing)
+impl Profile {
+    pub fn market(self) -> Market
+        ensures { MarketOf (as_profile self) result }
+    {
+        match self {
+            Profile::Euro => Market {
+                quotes: 17,
+                smoothing: 12,
+            },
+            Profile::FromTen => Market {
+                quotes: 10,
+                smoothing: 9,
+            },
+            Profile::FromFifteen => Market {
+                quotes: 12,
+                smoothing: 11,
+            },
+        }
+    }
+
+    pub fn smoothing_year(self) -> u64
+        ensures { result ≡ smoothing_year (as_profile self) }
+    {
+        maturity(self.market().smoothing)
+    }
+
+    // An adjustment goes with the euro only.
+    fn may_adjust(self) -> bool
+        ensures { result ≡ adjustable (as_profile self) }
+    {
+        matches!(self, Profile::Euro)
+    }
 }
 
-// An adjustment goes with the euro only.
-fn may_adjust(p: Profile) -> bool
-    ensures { result ≡ adjustable (as_profile p) }
-{
-    match p {
-        Profile::Euro => true,
-        Profile::FromTen => false,
-        Profile::FromFifteen => false,
+// By its code; any other is turned down (19).
+impl TryFrom<u8> for Profile {
+    type Error = Ground;
+
+    ghost try_from_gives = { Named };
+
+    fn try_from(code: u8) -> Result<Self, Ground> {
+        match code {
+            1 => Ok(Profile::Euro),
+            2 => Ok(Profile::FromTen),
+            3 => Ok(Profile::FromFifteen),
+            _ => Err(Ground::UnknownProfile),
+        }
     }
 }
 
@@ -167,7 +169,7 @@ fn may_adjust(p: Profile) -> bool
 fn byte_at(sheet: &[u8], i: usize) -> u8
     ensures { result ≡ get_or sheet.now i 0 }
 {
-    if i < sheet.len() { sheet[i] } else { 0 }
+    sheet.get(i).copied().unwrap_or(0)
 }
 
 fn names_profile(sheet: &[u8]) -> bool
@@ -176,40 +178,22 @@ fn names_profile(sheet: &[u8]) -> bool
     byte_at(sheet, 0) == 0x08
 }
 
-fn profile_by(n: u8) -> Profile
-    ensures { as_profile result ≡ profile_by n }
-{
-    if n == 2 {
-        return Profile::FromTen;
-    }
-    if n == 3 {
-        return Profile::FromFifteen;
-    }
-    Profile::Euro
-}
-
 // The euro also without the record.
 fn profile_of(sheet: &[u8]) -> Profile
     ensures { as_profile result ≡ profile_of sheet.now }
 {
     if names_profile(sheet) {
-        return profile_by(byte_at(sheet, 1));
+        Profile::try_from(byte_at(sheet, 1)).unwrap_or(Profile::Euro)
+    } else {
+        Profile::Euro
     }
-    Profile::Euro
 }
 
 // Ground 19's test.
 fn profile_known(sheet: &[u8]) -> bool
     ensures { result ≡ profile_known sheet.now }
 {
-    if !names_profile(sheet) {
-        return true;
-    }
-    if sheet.len() <= 1 {
-        return true;
-    }
-    let n = byte_at(sheet, 1);
-    if 1 <= n { n <= 3 } else { false }
+    !names_profile(sheet) || sheet.len() <= 1 || Profile::try_from(byte_at(sheet, 1)).is_ok()
 }
 
 // What a record adds where it stands.
@@ -219,199 +203,184 @@ fn if_stands(stands: bool, n: usize) -> usize
     if stands { n } else { 0 }
 }
 
-// The bytes of the records that every sheet of the market has.
-fn first_bytes(led: bool, p: Profile) -> usize
-    ensures { FirstBytes led (as_profile p) result }
-{
-    let market = market_of(p);
-    if_stands(led, 2) + 3 + 4 * market.quotes + 6 * (market.quotes - market.smoothing) + 8
-}
-
-// By the bytes alone: past these records stands one more, the adjustment's where the market may have it and the kind byte there is its own;
-// past that one, both.
+// By the bytes alone: past the records that every sheet of the market has stands one more, the adjustment's where the market may have it and
+// the kind byte there is its own; past that one, both.
 pub fn layout_of(sheet: &[u8]) -> Layout
     ensures { as_layout result ≡ layout_of sheet.now }
 {
-    let led = names_profile(sheet);
-    let profile = profile_of(sheet);
-    let first = first_bytes(led, profile);
+    let shortest = Layout {
+        led: names_profile(sheet),
+        profile: profile_of(sheet),
+        phased: false,
+        adjusts: false,
+    };
+    let first = shortest.size();
     if sheet.len() <= first {
-        return Layout {
-            led: led,
-            profile: profile,
-            phased: false,
-            adjusts: false,
-        };
+        return shortest;
     }
-    if !may_adjust(profile) {
+    if !shortest.profile.may_adjust() {
         return Layout {
-            led: led,
-            profile: profile,
             phased: true,
-            adjusts: false,
+            ..shortest
         };
     }
     if first + 3 < sheet.len() {
         return Layout {
-            led: led,
-            profile: profile,
             phased: true,
             adjusts: true,
+            ..shortest
         };
     }
     let named = sheet[first] == 0x07;
     Layout {
-        led: led,
-        profile: profile,
         phased: !named,
         adjusts: named,
+        ..shortest
     }
 }
 
-pub fn size_of(layout: Layout) -> usize
-    ensures { result ≡ size_of (as_layout layout) }
-{
-    let profile = layout.profile;
-    first_bytes(layout.led, profile) + if_stands(layout.phased, 3) + if_stands(layout.adjusts, 3)
-}
+impl Layout {
+    pub fn size(self) -> usize
+        ensures { (result ≡ size_of (as_layout self)) × (result ≤ 117) }
+    {
+        let market = self.profile.market();
+        let first = if_stands(self.led, 2) + 3 + 4 * market.quotes + 6 * market.volumes() + 8;
+        first + if_stands(self.phased, 3) + if_stands(self.adjusts, 3)
+    }
 
-// The index of the ultimate rate's record.
-fn ultimate_index(layout: Layout) -> usize
-    ensures { (result ≡ ultimate_index (as_layout layout)) × (result ≤ 24) }
-{
-    let profile = layout.profile;
-    let market = market_of(profile);
-    if_stands(layout.led, 1) + 1 + market.quotes + (market.quotes - market.smoothing)
-}
+    // The index of the month's record.
+    fn month_index(self) -> usize
+        ensures { (result ≡ month_index (as_layout self)) × (result ≤ 1) }
+    {
+        if_stands(self.led, 1)
+    }
 
-fn count_of(layout: Layout) -> usize
-    ensures { (result ≡ length (slots_of (as_layout layout))) × (result ≤ 28) }
-{
-    ultimate_index(layout) + 2 + if_stands(layout.phased, 1) + if_stands(layout.adjusts, 1)
+    // Of the first volume's.
+    fn volume_index(self) -> usize
+        ensures { (result ≡ volume_index (as_layout self)) × (result ≤ 19) }
+    {
+        self.month_index() + 1 + self.profile.market().quotes
+    }
+
+    // Of the ultimate rate's.
+    fn ultimate_index(self) -> usize
+        ensures { (result ≡ ultimate_index (as_layout self)) × (result ≤ 24) }
+    {
+        self.volume_index() + self.profile.market().volumes()
+    }
+
+    fn count(self) -> usize
+        ensures { (result ≡ length (slots_of (as_layout self))) × (result ≤ 28) }
+    {
+        self.ultimate_index() + 2 + if_stands(self.phased, 1) + if_stands(self.adjusts, 1)
+    }
+
+    // Past the limit's record.
+    fn last_kind(self, i: usize) -> Kind
+        requires { ultimate_index (as_layout self) + 2 ≤ i }
+        ensures { i < length (slots_of (as_layout self)) → as_kind result ≡ (slot_at (as_layout self) i).kind }
+    {
+        if self.phased && i == self.ultimate_index() + 2 {
+            Kind::PhaseIn
+        } else {
+            Kind::Adjustment
+        }
+    }
+
+    // SPECIFICATION 2.1: what is due at index i. The volumes' maturities are the market's last.
+    pub fn entry_at(self, i: usize) -> Entry
+        requires { i < 28 }
+        ensures { Due (as_layout self) i result }
+    {
+        let month = self.month_index();
+        let volumes = self.volume_index();
+        let ultimate = self.ultimate_index();
+        if i < month {
+            Kind::Profile.alone()
+        } else if i == month {
+            Kind::Month.alone()
+        } else if i < volumes {
+            Entry {
+                kind: Kind::Rate,
+                maturity: maturity(i - month - 1),
+            }
+        } else if i < ultimate {
+            Entry {
+                kind: Kind::Volume,
+                maturity: maturity(self.profile.market().smoothing + (i - volumes)),
+            }
+        } else if i == ultimate {
+            Kind::Ultimate.alone()
+        } else if i == ultimate + 1 {
+            Kind::Limit.alone()
+        } else {
+            self.last_kind(i).alone()
+        }
+    }
 }
 
 // ---- what is due
 
-fn form_of(k: Kind) -> Form
-    ensures { (result.0 ≡ kind_byte (as_kind k)) × ((result.1 ≡ maturity_bytes (as_kind k)) × (result.2 ≡ number_bytes (as_kind k))) }
-{
-    match k {
-        Kind::Month => Form(0x01, 0, 2),
-        Kind::Rate => Form(0x02, 1, 2),
-        Kind::Volume => Form(0x03, 1, 4),
-        Kind::Ultimate => Form(0x04, 0, 2),
-        Kind::Limit => Form(0x05, 0, 4),
-        Kind::PhaseIn => Form(0x06, 0, 2),
-        Kind::Adjustment => Form(0x07, 0, 2),
-        Kind::Profile => Form(0x08, 0, 1),
-    }
-}
-
-fn range_of(k: Kind) -> Range
-    ensures { (result.0 ≡ lowest (as_kind k)) × (result.1 ≡ highest (as_kind k)) }
-{
-    match k {
-        Kind::Month => Range(0, 2_399),
-        Kind::Rate => Range(-2_000, 12_000),
-        Kind::Volume => Range(0, 1_000_000),
-        Kind::Ultimate => Range(0, 10_000),
-        Kind::Limit => Range(1, 100_000),
-        Kind::PhaseIn => Range(10_000, 20_000),
-        Kind::Adjustment => Range(-500, 500),
-        Kind::Profile => Range(1, 3),
-    }
-}
-
-// Past the limit's record.
-fn last_kind(layout: Layout, i: usize) -> Kind
-    requires { ultimate_index (as_layout layout) + 2 ≤ i }
-    ensures { i < length (slots_of (as_layout layout)) → as_kind result ≡ (slot_at (as_layout layout) i).kind }
-{
-    if i == ultimate_index(layout) + 2 {
-        if layout.phased {
-            return Kind::PhaseIn;
-        }
-    }
-    Kind::Adjustment
-}
-
-// SPECIFICATION 2.1: what is due at index i. The volumes' maturities are the market's last.
-pub fn entry_at(layout: Layout, i: usize) -> Entry
-    requires { i < 28 }
-    ensures { Due (as_layout layout) i result }
-{
-    let profile = layout.profile;
-    let market = market_of(profile);
-    let month = if_stands(layout.led, 1);
-    let volumes = month + 1 + market.quotes;
-    let ultimate = volumes + (market.quotes - market.smoothing);
-    if i < month {
+impl Kind {
+    // Due with no maturity.
+    fn alone(self) -> Entry
+        ensures { result ≡ record { kind = self; maturity = 0 } }
+    {
         Entry {
-            kind: Kind::Profile,
-            maturity: 0,
-        }
-    } else if i == month {
-        Entry {
-            kind: Kind::Month,
-            maturity: 0,
-        }
-    } else if i < volumes {
-        Entry {
-            kind: Kind::Rate,
-            maturity: maturity(i - month - 1),
-        }
-    } else if i < ultimate {
-        Entry {
-            kind: Kind::Volume,
-            maturity: maturity(market.smoothing + (i - volumes)),
-        }
-    } else if i == ultimate {
-        Entry {
-            kind: Kind::Ultimate,
-            maturity: 0,
-        }
-    } else if i == ultimate + 1 {
-        Entry {
-            kind: Kind::Limit,
-            maturity: 0,
-        }
-    } else {
-        Entry {
-            kind: last_kind(layout, i),
+            kind: self,
             maturity: 0,
         }
     }
-}
 
-// ---- a record
-
-// A part of the sheet, without the kind byte.
-pub fn body(sheet: &[u8], slot: Slot) -> &[u8]
-    requires { end_of slot ≤ length sheet.now }
-    ensures { (result.now ≡ body_of sheet.now (as_slot slot)) × (length result.now ≡ body_length (as_kind slot.kind)) }
-{
-    let kind = slot.kind;
-    let form = form_of(kind);
-    let from = slot.start + 1;
-    let to = from + (form.1 + form.2);
-    &sheet[from..to]
-}
-
-// Ground 2's test: the kind byte, and the maturity where the body has one.
-fn right_record(sheet: &[u8], slot: Slot, body: &[u8]) -> bool
-    requires { (end_of slot ≤ length sheet.now) × (body.now ≡ body_of sheet.now (as_slot slot)) }
-    ensures { result ≡ right_record sheet.now (as_slot slot) }
-{
-    let kind = slot.kind;
-    let start = slot.start;
-    let form = form_of(kind);
-    if sheet[start] != form.0 {
-        return false;
+    fn form(self) -> Form
+        ensures byte { result.byte ≡ kind_byte (as_kind self) }
+        ensures maturity { result.maturity ≡ maturity_bytes (as_kind self) }
+        ensures number { result.number ≡ number_bytes (as_kind self) }
+    {
+        let (byte, maturity, number) = match self {
+            Kind::Month => (0x01, 0, 2),
+            Kind::Rate => (0x02, 1, 2),
+            Kind::Volume => (0x03, 1, 4),
+            Kind::Ultimate => (0x04, 0, 2),
+            Kind::Limit => (0x05, 0, 4),
+            Kind::PhaseIn => (0x06, 0, 2),
+            Kind::Adjustment => (0x07, 0, 2),
+            Kind::Profile => (0x08, 0, 1),
+        };
+        Form {
+            byte,
+            maturity,
+            number,
+        }
     }
-    if form.1 == 0 {
-        return true;
+
+    // Ground 3's test: the lowest number and the highest.
+    fn admits(self, z: i64) -> bool
+        ensures { result ≡ in_kind (as_kind self) z }
+    {
+        let range = match self {
+            Kind::Month => 0..=2_399,
+            Kind::Rate => -2_000..=12_000,
+            Kind::Volume => 0..=1_000_000,
+            Kind::Ultimate => 0..=10_000,
+            Kind::Limit => 1..=100_000,
+            Kind::PhaseIn => 10_000..=20_000,
+            Kind::Adjustment => -500..=500,
+            Kind::Profile => 1..=3,
+        };
+        range.contains(&z)
     }
-    big_endian::wide(body[0]) == slot.maturity
+
+    // A rate and an adjustment are in two's complement, any other number has no sign (SPECIFICATION 2.2).
+    fn signed(self, n: u64) -> i64
+        requires { n < 256 ^ number_bytes (as_kind self) }
+        ensures { result ≡ reading (as_kind self) n }
+    {
+        match self {
+            Kind::Rate | Kind::Adjustment => twos_complement(n),
+            _ => n as i64,
+        }
+    }
 }
 
 fn twos_complement(n: u64) -> i64
@@ -422,30 +391,27 @@ fn twos_complement(n: u64) -> i64
     if n < 0x8000 { z } else { z - 0x10000 }
 }
 
-// A rate and an adjustment are in two's complement, any other number has no sign (SPECIFICATION 2.2).
-fn signed(k: Kind, n: u64) -> i64
-    requires { n < 256 ^ number_bytes (as_kind k) }
-    ensures { result ≡ reading (as_kind k) n }
+// ---- a record
+
+// A part of the sheet, without the kind byte.
+pub fn body(sheet: &[u8], slot: Slot) -> &[u8]
+    requires { end_of slot ≤ length sheet.now }
+    ensures { (result.now ≡ body_of sheet.now (as_slot slot)) × (length result.now ≡ body_length (as_kind slot.due.kind)) }
 {
-    let z = n as i64;
-    match k {
-        Kind::Month => z,
-        Kind::Rate => twos_complement(n),
-        Kind::Volume => z,
-        Kind::Ultimate => z,
-        Kind::Limit => z,
-        Kind::PhaseIn => z,
-        Kind::Adjustment => twos_complement(n),
-        Kind::Profile => z,
-    }
+    let form = slot.due.kind.form();
+    let from = slot.start + 1;
+    let to = from + (form.maturity + form.number);
+    &sheet[from..to]
 }
 
-// Ground 3's test.
-fn in_range(k: Kind, z: i64) -> bool
-    ensures { result ≡ in_kind (as_kind k) z }
+// Ground 2's test: the kind byte, and the maturity where the body has one.
+fn right_record(sheet: &[u8], slot: Slot, body: &[u8]) -> bool
+    requires { (end_of slot ≤ length sheet.now) × (body.now ≡ body_of sheet.now (as_slot slot)) }
+    ensures { result ≡ right_record sheet.now (as_slot slot) }
 {
-    let range = range_of(k);
-    if range.0 <= z { z <= range.1 } else { false }
+    let form = slot.due.kind.form();
+    sheet[slot.start] == form.byte
+        && (form.maturity == 0 || big_endian::wide(body[0]) == slot.due.maturity)
 }
 
 fn read_record(sheet: &[u8], slot: Slot) -> Reading
@@ -455,100 +421,74 @@ fn read_record(sheet: &[u8], slot: Slot) -> Reading
     ensures number { result.number ≡ number_of_record sheet.now (as_slot slot) }
     ensures next { result.next ≡ end_of slot }
 {
-    let kind = slot.kind;
-    let form = form_of(kind);
-    let from = form.1;
-    let b = body(sheet, slot);
-    let z = signed(kind, big_endian::number(&b[from..]));
+    let kind = slot.due.kind;
+    let body = body(sheet, slot);
+    let number = kind.signed(big_endian::number(&body[kind.form().maturity..]));
     Reading {
-        right: right_record(sheet, slot, b),
-        inside: in_range(kind, z),
-        number: z,
-        next: slot.start + 1 + b.len(),
+        right: right_record(sheet, slot, body),
+        inside: kind.admits(number),
+        number,
+        next: slot.start + 1 + body.len(),
     }
 }
 
 // ---- all records
 
-// The place found so far, or this one where there is none yet and the test fails here.
-fn kept(found: u64, passes: bool, place: u64) -> u64
-    ensures { result ≡ or_else found (cond passes 0 place) }
-{
-    if found != 0 {
-        return found;
-    }
-    if passes { 0 } else { place }
-}
-
 // Each record is read once, for both tests and its number, and starts where the one before it ends.
 fn read_records(sheet: &[u8], layout: Layout) -> Records
     requires { length sheet.now ≡ size_of (as_layout layout) }
-    ensures wrong { result.wrong ≡ first_failure (right_record sheet.now) 1 (slots_of (as_layout layout)) }
-    ensures outside { result.outside ≡ first_failure (in_range sheet.now) 1 (slots_of (as_layout layout)) }
+    ensures wrong { result.wrong ≡ found (first_failure (right_record sheet.now) 1 (slots_of (as_layout layout))) }
+    ensures outside { result.outside ≡ found (first_failure (in_range sheet.now) 1 (slots_of (as_layout layout))) }
     ensures numbers { take (length (slots_of (as_layout layout))) result.numbers ≡ map (number_of_record sheet.now) (slots_of (as_layout layout)) }
 {
-    let count = count_of(layout);
-    let mut wrong: u64 = 0;
-    let mut outside: u64 = 0;
-    let mut numbers = [0i64; 28];
-    let mut start: usize = 0;
-    let mut i: usize = 0;
-    while i < count {
-        let due = entry_at(layout, i);
-        let kind = due.kind;
-        let slot = Slot {
-            kind: kind,
-            maturity: due.maturity,
-            start: start,
-        };
-        let record = read_record(sheet, slot);
+    let mut wrong = None;
+    let mut outside = None;
+    let mut numbers = [0; 28];
+    let mut start = 0;
+    for i in 0..layout.count() {
+        let due = layout.entry_at(i);
+        let record = read_record(sheet, Slot { due, start });
         let place = i as u64 + 1;
-        wrong = kept(wrong, record.right, place);
-        outside = kept(outside, record.inside, place);
-        let z = record.number;
-        numbers[i] = z;
+        wrong = wrong.or((!record.right).then_some(place));
+        outside = outside.or((!record.inside).then_some(place));
+        numbers[i] = record.number;
         start = record.next;
-        i += 1;
     }
     Records {
-        wrong: wrong,
-        outside: outside,
-        numbers: numbers,
+        wrong,
+        outside,
+        numbers,
     }
 }
 
 // ---- the numbers of a sheet whose records pass
 
-fn rates(numbers: &[i64], from: usize, count: usize) -> [i16; 17]
-    requires { Run rate from count numbers.now × (count ≤ 17) }
-    ensures { take count result ≡ take count (drop from numbers.now) }
+fn rates(numbers: &[i64]) -> [i16; 17]
+    requires { Run rate numbers.now × (length numbers.now ≤ 17) }
+    ensures { take (length numbers.now) result ≡ numbers.now }
 {
-    let mut rates = [0i16; 17];
-    let mut i: usize = 0;
-    while i < count {
-        rates[i] = numbers[from + i] as i16;
-        i += 1;
+    let mut rates = [0; 17];
+    for (i, &z) in numbers.iter().enumerate() {
+        rates[i] = z as i16;
     }
     rates
 }
 
-// The cast loses nothing where the kind has no sign.
+// The size of the number at index i, of a kind that has no sign.
 fn unsigned(numbers: &[i64], i: usize) -> u64
-    requires { (i < length numbers.now) × (non_neg (get_or numbers.now i (pos 0)) ≡ true) }
+    requires { i < length numbers.now }
     ensures { result ≡ nat_abs (get_or numbers.now i (pos 0)) }
 {
-    numbers[i] as u64
+    numbers[i].unsigned_abs()
 }
 
-fn volumes(numbers: &[i64], from: usize, count: usize) -> [u64; 5]
-    requires { Run volume from count numbers.now × (count ≤ 5) }
-    ensures { take count result ≡ map nat_abs (take count (drop from numbers.now)) }
+fn volumes(numbers: &[i64]) -> [u64; 5]
+    requires { length numbers.now ≤ 5 }
+    ensures { take (length numbers.now) result ≡ map nat_abs numbers.now }
 {
-    let mut volumes = [0u64; 5];
-    let mut i: usize = 0;
-    while i < count {
-        volumes[i] = unsigned(numbers, from + i);
-        i += 1;
+    let mut volumes = [0; 5];
+    for (i, &z) in numbers.iter().enumerate() {
+        volumes[i] = z.unsigned_abs();
     }
     volumes
 }
@@ -561,121 +501,80 @@ fn phase_in(numbers: &[i64], layout: Layout) -> u64
     ensures { result ≡ (numbers_of (as_layout layout) numbers.now).phase_in }
 {
     if layout.phased {
-        unsigned(numbers, ultimate_index(layout) + 2)
+        unsigned(numbers, layout.ultimate_index() + 2)
     } else {
         ABSENT_PHASE_IN
     }
 }
 
-// 0 where the record does not stand.
-fn adjustment(numbers: &[i64], layout: Layout) -> i64
+// The last number, where the record stands.
+fn adjustment(numbers: &[i64], layout: Layout) -> Option<i64>
     requires { AllInside (as_layout layout) numbers.now }
-    ensures { result ≡ (numbers_of (as_layout layout) numbers.now).adjustment }
+    ensures stands { is_some result ≡ layout.adjusts }
+    ensures value { unwrap_or result (pos 0) ≡ (numbers_of (as_layout layout) numbers.now).adjustment }
 {
     if layout.adjusts {
-        numbers[numbers.len() - 1]
+        numbers.last().copied()
     } else {
-        0
+        None
     }
 }
 
-fn numbers_of(numbers: &[i64], layout: Layout) -> Numbers
+// Ground 4's test on the volumes that the sheet carries: whether one is above 0.
+fn any_traded(numbers: &[i64], layout: Layout) -> bool
     requires { AllInside (as_layout layout) numbers.now }
+    ensures { result ≡ ltb 0 (total (numbers_of (as_layout layout) numbers.now).volumes) }
+{
+    let volumes = &numbers[layout.volume_index()..layout.ultimate_index()];
+    volumes.iter().any(|volume| 0 < volume.unsigned_abs())
+}
+
+fn numbers_of(numbers: &[i64], layout: Layout) -> Numbers
+    requires inside { AllInside (as_layout layout) numbers.now }
+    requires in_range { NumbersInRange (numbers_of (as_layout layout) numbers.now) }
     ensures { as_numbers result ≡ numbers_of (as_layout layout) numbers.now }
 {
     let profile = layout.profile;
-    let market = market_of(profile);
-    let month = if_stands(layout.led, 1);
-    let from = month + 1 + market.quotes;
-    let count = market.quotes - market.smoothing;
-    let ultimate = from + count;
+    let month = layout.month_index();
+    let volume = layout.volume_index();
+    let ultimate = layout.ultimate_index();
     Numbers {
-        profile: profile,
+        profile,
         month: unsigned(numbers, month),
-        rates: rates(numbers, month + 1, market.quotes),
-        volumes: volumes(numbers, from, count),
+        rates: rates(&numbers[month + 1..volume]),
+        volumes: volumes(&numbers[volume..ultimate]),
         ultimate: unsigned(numbers, ultimate),
         limit: unsigned(numbers, ultimate + 1),
         phase_in: phase_in(numbers, layout),
-        adjusts: layout.adjusts,
         adjustment: adjustment(numbers, layout),
     }
 }
 
-// Whether one of the first volumes is above 0: ground 4's test.
-fn traded(volumes: [u64; 5], count: usize) -> bool
-    requires { count ≤ 5 }
-    ensures { result ≡ ltb 0 (total (take count volumes)) }
-{
-    let mut i: usize = 0;
-    while i < count {
-        if 0 < volumes[i] {
-            return true;
-        }
-        i += 1;
-    }
-    false
-}
-
-// Ground 4's test on the volumes that the sheet carries.
-fn any_traded(n: Numbers) -> bool
-    ensures { result ≡ ltb 0 (total (as_numbers n).volumes) }
-{
-    let profile = n.profile;
-    let market = market_of(profile);
-    let volumes = n.volumes;
-    traded(volumes, market.quotes - market.smoothing)
-}
-
-fn refused(g: Ground) -> ReadSheet
-    ensures outcome { as_outcome result.verdict (as_numbers result.numbers) ≡ refused (as_ground g) }
-    ensures beside { as_numbers result.numbers ≡ no_numbers }
-{
-    ReadSheet {
-        verdict: Verdict::Refused(g),
-        numbers: Numbers {
-            profile: Profile::Euro,
-            month: 0,
-            rates: [0i16; 17],
-            volumes: [0u64; 5],
-            ultimate: 0,
-            limit: 0,
-            phase_in: 0,
-            adjusts: false,
-            adjustment: 0,
-        },
-    }
-}
-
 // For any bytes. Each ground is tried on the whole sheet before the next (SPECIFICATION 2.3).
-pub fn read(sheet: &[u8]) -> ReadSheet
-    ensures outcome { as_outcome result.verdict (as_numbers result.numbers) ≡ read_sheet sheet.now }
-    ensures beside { as_numbers result.numbers ≡ result_or no_numbers (read_sheet sheet.now) }
+pub fn read(sheet: &[u8]) -> Result<Numbers, Ground>
+    ensures { outcome_of as_numbers result ≡ read_sheet sheet.now }
 {
     if !profile_known(sheet) {
-        return refused(Ground::UnknownProfile);
+        return Err(Ground::UnknownProfile);
     }
     let layout = layout_of(sheet);
-    if sheet.len() != size_of(layout) {
-        return refused(Ground::WrongLength);
+    if sheet.len() != layout.size() {
+        return Err(Ground::WrongLength);
     }
-    let records = read_records(sheet, layout);
-    let wrong = records.wrong;
-    if wrong != 0 {
-        return refused(Ground::WrongRecord(wrong));
+    let Records {
+        wrong,
+        outside,
+        numbers,
+    } = read_records(sheet, layout);
+    if let Some(place) = wrong {
+        return Err(Ground::WrongRecord(place));
     }
-    let outside = records.outside;
-    if outside != 0 {
-        return refused(Ground::OutOfRange(outside));
+    if let Some(place) = outside {
+        return Err(Ground::OutOfRange(place));
     }
-    let all = records.numbers;
-    let count = count_of(layout);
-    let numbers = numbers_of(&all[..count], layout);
-    if !any_traded(numbers) {
-        return refused(Ground::NoVolume);
+    let numbers = &numbers[..layout.count()];
+    if !any_traded(numbers, layout) {
+        return Err(Ground::NoVolume);
     }
-    ReadSheet {
-        verdict: Verdict::Passed,
-        numbers: numbers,
-    }
+    Ok(numbers_of(numbers, layout))
 }

@@ -1,5 +1,5 @@
 pub mod Bounds
 pub mod Places
 pub mod Moving
-pub mod Costs
 pub mod Blocks
+pub mod Costs

@@ -3,37 +3,27 @@
 // `stdout` is what the second implementation writes.
 #![tactic(auto)]
 
-use shift_search::Shift;
 use std::io;
 
-fn show(rt: &impl Print, found: Shift) -> io::Result<()> {
-    let verdict = found.verdict;
-    let number = grounds::number(verdict);
-    let place = grounds::place(verdict);
-    let bits = big_endian::twos_complement(found.shift) % 65_536;
-    println!(rt; "{number} {place} {bits}")
-}
-
+// No shift stands beside a refusal: 0 is written there.
 fn shift(rt: &impl Print, sheet: &[u8], numbers: &[u64], target: u64) -> io::Result<()> {
-    show(rt, shift_search::shift_of_numbers(sheet, numbers, target))
+    let answer = shift_search::shift_of_numbers(sheet, numbers, target);
+    let number = grounds::number(&answer);
+    let place = grounds::place(&answer);
+    let bits = big_endian::twos_complement(answer.unwrap_or(0)) % 65_536;
+    println!(rt; "{number} {place} {bits}")
 }
 
 // A target that any block meets, five between, and one that none meets; then 20 for an odd count and for no entry, 21 and 22 at their places.
 fn shifts(rt: &impl Print, sheet: &[u8]) -> io::Result<()> {
     let pension: [u64; 6] = [1, 100_000, 10, 100_000, 30, 500_000];
-    shift(rt, sheet, &pension, 18_446_744_073_709_551_615)?;
-    shift(rt, sheet, &pension, 650_000)?;
-    shift(rt, sheet, &pension, 620_000)?;
-    shift(rt, sheet, &pension, 390_000)?;
-    shift(rt, sheet, &pension, 380_000)?;
-    shift(rt, sheet, &pension, 370_000)?;
-    shift(rt, sheet, &pension, 0)?;
+    for target in [u64::MAX, 650_000, 620_000, 390_000, 380_000, 370_000, 0] {
+        shift(rt, sheet, &pension, target)?;
+    }
     shift(rt, sheet, &pension[..5], 380_000)?;
     shift(rt, sheet, &pension[..0], 380_000)?;
-    let mistyped: [u64; 4] = [1, 1, 151, 1_000_000_001];
-    shift(rt, sheet, &mistyped, 380_000)?;
-    let large: [u64; 2] = [1, 1_000_000_001];
-    shift(rt, sheet, &large, 380_000)
+    shift(rt, sheet, &[1, 1, 151, 1_000_000_001], 380_000)?;
+    shift(rt, sheet, &[1, 1_000_000_001], 380_000)
 }
 
 // The second sheet is all that follows the first; a cut one comes last.

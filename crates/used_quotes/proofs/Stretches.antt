@@ -25,7 +25,7 @@ marks_are vs five =
 abbrev pub after : Bool → ℕ → ℕ
 after u gap = cond u (gap + 1) gap
 
-pub five_stretches : (d : ℕ) (xs : List ℕ) (i : ℕ) (to25 to30 to40 to50 : Bool) →
+pub five_stretches : {A : Type 0} (d : A) (xs : List A) (i : ℕ) (to25 to30 to40 to50 : Bool) →
     let second = i + 1 in
     let third = after to25 second in
     let fourth = after to30 third in

@@ -2,7 +2,7 @@
 use Rattle.std.specs.Prelude.{◌≡◌, ℕ, get_or}
 use Rattle.method.specs.Ranges.{Factor}
 use Rattle.method.specs.Curve.{no_year}
-use Rattle.rounding.specs.declared.Pair.{Pair}
+use Rattle.rounding.specs.Pairs.{Pair}
 use Rattle.rounding.specs.Pairs.{as_pair}
 use Rattle.bootstrap.specs.declared.Liquid.{Liquid}
 use Rattle.bootstrap.specs.Liquids.{as_bootstrap}

@@ -2,23 +2,19 @@
 // is a quoted year alone that year over the one before.
 #![tactic(auto)]
 
-ghost use Rattle.std.specs.Prelude.{◌≡◌, false, cond, ◌+◌, ◌≤◌, ◌<◌, ltb, take, drop, get_or};
+ghost use Rattle.std.specs.Prelude.{◌≡◌, false, cond, map, ◌+◌, ◌≤◌, ◌<◌, ltb, take, drop, get_or};
 ghost use Rattle.fraction.specs.Rounding.{U};
 ghost use Rattle.method.specs.Units.{pair};
-ghost use Rattle.method.specs.Ranges.{NumbersInRange};
 ghost use Rattle.method.specs.Quotes.{used};
 ghost use Rattle.method.specs.Curve.{used_quotes, spread, year_over};
 ghost use Rattle.rounding.specs.Pairs.{as_pair};
 ghost use Rattle.sheet.specs.Views.{as_numbers};
-ghost use Rattle.bootstrap.specs.Liquids.{as_quotes, as_bootstrap, QuotesClimb, LiquidSound};
+ghost use Rattle.bootstrap.specs.Liquids.{as_quotes, as_bootstrap, QuotesClimb};
 ghost use Rattle.used_quotes.specs.Factors.{FactorOf};
 
-use bootstrap::{Liquid, Quotes};
-use rounding::Pair;
+use bootstrap::{Liquid, ONE, Quotes};
+use rounding::{Pair, UNIT};
 use sheet::Numbers;
-
-// U of the definitions.
-const UNIT: u64 = 1_000_000_000;
 
 // The gap that ends with the euro's smoothing year.
 const SMOOTHING_GAP: usize = 2;
@@ -30,39 +26,26 @@ fn is_used(smoothing: usize, volumes: [u64; 5], i: usize) -> bool
     requires { i < smoothing + 5 }
     ensures { result ≡ get_or (used smoothing volumes) i false }
 {
-    if smoothing < i {
-        0 < volumes[i - smoothing]
-    } else {
-        true
-    }
+    i <= smoothing || 0 < volumes[i - smoothing]
 }
 
 // In the order of their maturities.
 pub fn select(n: Numbers) -> Quotes
-    requires { NumbersInRange (as_numbers n) }
     ensures quotes { as_quotes result ≡ used_quotes (as_numbers n) }
     ensures climb { QuotesClimb result }
 {
-    let profile = n.profile;
-    let market = sheet::market_of(profile);
-    let quotes = market.quotes;
-    let smoothing = market.smoothing;
-    let rates = n.rates;
-    let volumes = n.volumes;
+    let market = n.profile.market();
     let mut q = Quotes {
         maturities: [0; 17],
-        rates: [0i16; 17],
+        rates: [0; 17],
         count: 0,
     };
-    let mut i: usize = 0;
-    while i < quotes {
-        if is_used(smoothing, volumes, i) {
-            let k = q.count;
-            q.maturities[k] = sheet::maturity(i);
-            q.rates[k] = rates[i];
-            q.count = k + 1;
+    for i in 0..market.quotes {
+        if is_used(market.smoothing, n.volumes, i) {
+            q.maturities[q.count] = sheet::maturity(i);
+            q.rates[q.count] = n.rates[i];
+            q.count += 1;
         }
-        i = i + 1;
     }
     q
 }
@@ -71,7 +54,7 @@ pub fn select(n: Numbers) -> Quotes
 
 // The factor of an index.
 fn factor_at(q: Liquid, i: usize) -> Pair
-    requires { LiquidSound q × (i < q.count) }
+    requires { (i < q.count) }
     ensures { FactorOf q i result }
 {
     Pair {
@@ -82,7 +65,7 @@ fn factor_at(q: Liquid, i: usize) -> Pair
 
 // Rounded outward.
 pub fn year_over(q: Liquid, year: usize) -> Pair
-    requires { LiquidSound q × (2 ≤ year) × (year ≤ q.count) }
+    requires { (2 ≤ year) × (year ≤ q.count) }
     ensures { as_pair result ≡ year_over (as_bootstrap q).factors year }
 {
     let last = factor_at(q, year - 1);
@@ -104,30 +87,24 @@ fn gap_after(gap: usize, volume: u64) -> usize
 }
 
 // 1 past the last gap.
-fn x_of(xs: [u64; 7], gaps: usize, gap: usize) -> u64
+fn x_of(xs: [Pair; 7], gaps: usize, gap: usize) -> Pair
     requires { gaps ≤ 7 }
-    ensures { result ≡ get_or (take gaps xs) gap U }
+    ensures { as_pair result ≡ get_or (map as_pair (take gaps xs)) gap (pair U U) }
 {
-    if gap < gaps { xs[gap] } else { UNIT }
+    if gap < gaps { xs[gap] } else { ONE }
 }
 
 // A gap's, at both ends.
 pub fn gap_x(q: Liquid, gap: usize) -> Pair
-    requires { LiquidSound q }
     ensures { as_pair result ≡ get_or (as_bootstrap q).yearly_factors gap (pair U U) }
 {
-    let lows = q.xlows;
-    let highs = q.xhighs;
-    Pair {
-        low: x_of(lows, q.gaps, gap),
-        high: x_of(highs, q.gaps, gap),
-    }
+    x_of(q.xs, q.gaps, gap)
 }
 
 // The euro's: the x of 15-20, 20-25, 25-30, 30-40 and 40-50.
-pub fn spread_out(volumes: [u64; 5], xs: [u64; 7], gaps: usize) -> [u64; 5]
+pub fn spread_out(volumes: [u64; 5], xs: [Pair; 7], gaps: usize) -> [Pair; 5]
     requires { gaps ≤ 7 }
-    ensures { result ≡ spread U (drop 12 (used 12 volumes)) (drop 2 (take gaps xs)) }
+    ensures { map as_pair result ≡ spread (pair U U) (drop 12 (used 12 volumes)) (drop 2 (map as_pair (take gaps xs))) }
 {
     let to25 = SMOOTHING_GAP + 1;
     let to30 = gap_after(to25, volumes[1]);

@@ -4,7 +4,7 @@ use Rattle.adjustment.proofs.Years.{Reached}
 use Rattle.adjustment.proofs.adjusted_years.Given as goal
 
 abbrev pub invariant-loop-i : goal.invariant-loop-i
-invariant-loop-i l = Reached l.a l.years (record { lows = l.lows; highs = l.highs }) l.i
+invariant-loop-i l = Reached l.a l.fn.years l.years l.i
 
 abbrev pub decreases-loop-i : goal.decreases-loop-i
 decreases-loop-i l = 20 - l.i

@@ -1,12 +1,13 @@
 -- Each sum is small enough to be read back from its bits.
 use mathlib.Core.Path.{◌≡◌, ap, ◌∙◌}
 use Prim.Native.Nat.{◌≤◌}
-use lib.IntN.{ℤ, pos, nat_abs}
+use lib.IntN.{ℤ, nat_abs, ◌+ℤ◌}
 use lib.ListN.{length, get_or}
 use Rattle.method.specs.Ranges.{logarithm_bound}
 use Rattle.method.specs.Extrapolation.{billionths}
-use Rattle.rounding.proofs.Machine.{Computed, stored_is, held, integer, given, plus}
-use Rattle.adjustment.proofs.Raising.{raised_is}
+use Rattle.rounding.proofs.Machine.{Computed, stored, stored_is, held, integer, given, plus}
+use Rattle.extrapolation.specs.Extrapolated.{no_forward}
+use Rattle.adjustment.proofs.Raising.{raised_once, raised_is}
 use borrow.Author.Rules.{rules}
 use Rattle.adjustment.proofs.raise_first.Goals as goal
 use Rattle.adjustment.proofs.raise_first.Goals.{After-billionths-more}
@@ -20,9 +21,12 @@ raised c g h =
 pub returns : goal.returns
 returns c =
     let g = c.args.g in
-    let low = held (raised (goal.at.returns c).After-billionths-more (get_or g.lows 0 (pos 0)) (c.requires.0.low_sizes 0)) tt in
-    let high = held (raised (goal.at.returns c).After-billionths-more (get_or g.highs 0 (pos 0)) (c.requires.0.high_sizes 0)) tt in
-    let hl : length g.lows ≡ 5 = search rules in
-    let hh : length g.highs ≡ 5 = search rules in
-    raised_is g c.args.a hl hh c.requires.0 low.machine high.machine
-    low.is (rw low.is low.within.bound) high.is (rw high.is high.within.bound)
+    let billionths = (goal.at.returns c).After-billionths-more in
+    let first = c.requires.0.sizes 0 in
+    let low = held (raised billionths (get_or g 0 no_forward).low first.low_size) tt in
+    let high = held (raised billionths (get_or g 0 no_forward).high first.high_size) tt in
+    let five : length g ≡ 5 = search rules in
+    let once = raised_once g low.machine (λ h. stored (stored h +ℤ stored c.billionths-more.result)) five in
+    rw once
+    (raised_is c.args.a g (record { low = low.machine; high = high.machine }) five c.requires.0 low.is high.is
+    (record { low_size = rw low.is low.within.bound; high_size = rw high.is high.within.bound }))

@@ -3,16 +3,10 @@ use Rattle.big_endian.proofs.Gathering.{gathered_more, gathered_room, gathered_a
 use Rattle.big_endian.proofs.number.Goals as goal
 
 pub overflow_mul-n : goal.overflow_mul-n
-overflow_mul-n c =
-    let l = c.loop-i in
-    omega (arith, gathered_room _ l.n l.i l.invariant c.loop-i-test.true c.requires)
+overflow_mul-n c = omega (arith, gathered_room _ c.loop-byte.n _ c.loop-byte.invariant c.loop-byte-test.true c.requires)
 
-pub loop-i-preserved : goal.loop-i-preserved
-loop-i-preserved c =
-    let l = c.loop-i in
-    gathered_more _ l.n l.i c.wide.result l.invariant c.loop-i-test.true c.wide.ensures.0 c.wide.ensures.1
+pub loop-byte-preserved : goal.loop-byte-preserved
+loop-byte-preserved c = gathered_more _ _ _ _ c.loop-byte.invariant c.loop-byte-test.true c.wide.ensures.0 c.wide.ensures.1
 
 pub returns : goal.returns
-returns c =
-    let l = c.loop-i in
-    gathered_all _ l.n l.i l.invariant c.loop-i-test.false
+returns c = gathered_all _ _ _ c.loop-byte.invariant (omega arith)

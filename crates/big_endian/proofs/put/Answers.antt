@@ -1,7 +1,6 @@
 use mathlib.Core.Path.{◌≡◌, sym, ◌∙◌}
 use Prim.Native.Nat.{suc, ◌-◌}
 use native.Mathlib.Omega.{arith}
-use lib.ListN.{length-set}
 use Rattle.method.specs.Bytes.{in_bytes}
 use Rattle.big_endian.proofs.Putting.{put_none, put_low_byte}
 use Rattle.big_endian.proofs.put.Goals as goal
@@ -9,18 +8,13 @@ use Rattle.big_endian.proofs.put.Goals as goal
 pub loop-left-preserved : goal.loop-left-preserved
 loop-left-preserved c =
     let l = c.loop-left in
-    let a = c.args in
     let k = l.left - 1 in
     let e : l.left ≡ suc k = omega arith in
-    record {
-      within = omega arith;
-      same_length = simp length-set l.invariant.same_length;
-      whole = (rw e at l.invariant.whole) ∙ put_low_byte a.at k l.rest c.byte.result l.out c.byte.ensures (omega arith);
-    }
+    (rw e at l.invariant) ∙ put_low_byte c.args.at k l.rest c.byte.result l.out c.byte.ensures (omega arith)
 
 pub returns : goal.returns
 unfolding in_bytes
 returns c =
     let l = c.loop-left in
     let e : l.left ≡ 0 = omega arith in
-    sym ((rw (e, in_bytes) at l.invariant.whole) ∙ put_none c.args.at l.out)
+    sym ((rw (e, in_bytes) at l.invariant) ∙ put_none c.args.at l.out)

@@ -4,7 +4,9 @@ use Prim.Native.Nat.{ℕ, ◌+◌, ◌*◌, ◌/◌, ◌%◌, ◌≤◌, ◌<◌
 use native.Mathlib.Nat.{mul-le-mul, div-add-mod'}
 use native.Mathlib.Numerals.{add-one}
 use native.Mathlib.Omega.{arith}
-use lib.ListN.{get_or}
+use lib.ListN.{length, get_or, length-append}
+use borrow.Author.Rules.{rules}
+use Rattle.std.proofs.lemmas.Slice.Zip.{zip_turn}
 use Rattle.block.specs.Views.{weighed}
 use Rattle.block.proofs.multiplied.Invariants.{largest, Multiplied}
 use Rattle.block.proofs.multiplied.Goals as goal
@@ -52,9 +54,9 @@ module _ {totals factors : List ℕ} {millions rest i : ℕ} (d : Multiplied tot
     rest_fits = omega (arith, rest_small t f (d.held.1 i) hf, d.rest_fits);
   }
 
-pub loop-i-init : goal.loop-i-init
+pub loop-total-init : goal.loop-total-init
 unfolding weighed
-loop-i-init c = record {
+loop-total-init c = record {
   held = c.requires.0;
   long = c.requires.1;
   within = omega arith;
@@ -63,5 +65,12 @@ loop-i-init c = record {
   rest_fits = omega arith;
 }
 
-pub loop-i-preserved : goal.loop-i-preserved
-loop-i-preserved c = next c.loop-i.invariant (omega arith) (omega arith)
+pub loop-total-preserved : goal.loop-total-preserved
+loop-total-preserved c =
+    let l = c.loop-total in
+    let turn =
+    zip_turn c.args.totals.now c.args.factors.now l.yielded c.into_iter-total-iterator.result l.total-iterator c.next.new.self _ (search rules) (search rules)
+    l.yielded_by _ c.in-Some.is c.next.ensures.steps in
+    let factor = c.from-factor.ensures ∙ turn.3 0 in
+    let fits = c.type_inv.factors (length l.yielded) in
+    rw (turn.2 0, factor, length-append l.yielded) (next l.invariant (omega (arith, turn.1, c.requires.1)) (omega (arith, fits)))

@@ -4,7 +4,7 @@ use mathlib.Core.List.{List}
 use mathlib.Core.Path.{◌≡◌}
 use Prim.Native.Nat.{ℕ, ◌+◌, ◌*◌, ◌≤◌}
 use lib.ListN.{length}
-use Rattle.block.specs.Entries.{Totals}
+use Rattle.block.specs.Views.{Totals}
 use Rattle.block.specs.Views.{weighed}
 use Rattle.block.proofs.multiplied.Given as goal
 
@@ -20,5 +20,5 @@ pub record Multiplied (totals factors : List ℕ) (millions rest i : ℕ) : Type
   pub millions_fit : millions ≤ i * largest
   pub rest_fits : rest ≤ i * largest
 
-abbrev pub invariant-loop-i : goal.invariant-loop-i
-invariant-loop-i l = Multiplied l.totals l.factors l.millions l.rest l.i
+abbrev pub invariant-loop-total : goal.invariant-loop-total
+invariant-loop-total l = Multiplied l.totals l.factors l.millions l.rest (length l.yielded)

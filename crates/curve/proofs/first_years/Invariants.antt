@@ -2,7 +2,7 @@
 use Prim.Native.Nat.{ℕ, ◌-◌}
 use lib.ListN.{replicate}
 use Rattle.bootstrap.specs.declared.Liquid.{Liquid}
-use Rattle.extrapolation.specs.declared.Years.{Years}
+use Rattle.extrapolation.specs.Extrapolated.{Years}
 use Rattle.method.proofs.Copying.{Copied}
 use Rattle.curve.proofs.first_years.Given as goal
 

@@ -4,8 +4,5 @@ use Rattle.std.proofs.Common.{◌≤◌, length}
 use Rattle.desk_core.specs.Desk.{longest_record, line_room}
 use Rattle.desk_core.proofs.serve.Given as goal
 
-abbrev pub invariant-loop-passes : goal.invariant-loop-passes
-invariant-loop-passes g l = (longest_record ≤ length l.block) × ((line_room ≤ length l.text) × (l.desk.held ≤ length l.block))
-
-abbrev pub decreases-loop-passes : goal.decreases-loop-passes
-decreases-loop-passes g l = l.passes
+abbrev pub invariant-loop : goal.invariant-loop
+invariant-loop g l = (longest_record ≤ length l.block) × ((line_room ≤ length l.text) × (l.desk.held ≤ length l.block))

@@ -5,7 +5,7 @@ use Rattle.desk_core.proofs.Serving.{Progress}
 use Rattle.desk_core.proofs.serve_held.Given as goal
 
 abbrev pub invariant-loop-text : goal.invariant-loop-text
-invariant-loop-text l = Progress (length l.initial.text) (as_book l.initial.after) l.held (as_book l.after) l.taken l.text l.written
+invariant-loop-text l = Progress (length l.initial.text) (as_book l.initial.book) l.held (as_book l.book) l.taken l.text l.written
 
 abbrev pub decreases-loop-text : goal.decreases-loop-text
 decreases-loop-text l = length l.held - l.taken

@@ -1,18 +1,16 @@
--- By the kind byte.
-use Rattle.journal.proofs.Making.{at_end_lem, at_post, at_turn, at_unknown}
+-- By the kind of the first byte; a withdrawal is unknown to the desk.
+use Rattle.std.proofs.Common.{rules, refl}
+use Rattle.journal.proofs.Making.{desk_front_is, desk_knows, uncalled}
+use Rattle.journal.specs.declared.NoCall.TheVariants.{NotKnown}
 use Rattle.journal.proofs.make_at_desk.Goals as goal
 
-pub returns-then-rest-eq0 : goal.returns-then-rest-eq0
-returns-then-rest-eq0 c = at_end_lem _ _ _ c.if-rest-eq0.true c.no_call.ensures
+pub returns-in_err-kind : goal.returns-in_err-kind
+returns-in_err-kind c = rw (desk_front_is c.args.rest.now, ← c.in_err-kind.ensures) (uncalled _ _ _ _ (search rules))
 
-pub returns-then-kind-eq80 : goal.returns-then-kind-eq80
-returns-then-kind-eq80 c =
-    at_post c.args.book _ _ c.if-rest-eq0.false c.if-kind-eq80.true c.make_post.ensures
+pub returns-in-Withdrawal : goal.returns-in-Withdrawal
+returns-in-Withdrawal c =
+    rw (desk_front_is c.args.rest.now, ← c.in_ok-kind.ensures, c.in-Withdrawal.is) (uncalled _ _ NotKnown _ refl)
 
-pub returns-then-kind-eq77 : goal.returns-then-kind-eq77
-returns-then-kind-eq77 c =
-    at_turn c.args.book _ _ c.if-rest-eq0.false c.if-kind-eq80.false c.if-kind-eq77.true c.make_turn.ensures
-
-pub returns : goal.returns
-returns c =
-    at_unknown c.args.book _ _ c.if-rest-eq0.false c.if-kind-eq80.false c.if-kind-eq77.false c.if-kind-eq76.false c.no_call-2.ensures
+pub returns-in_default : goal.returns-in_default
+returns-in_default c =
+    rw (desk_front_is c.args.rest.now, ← c.in_ok-kind.ensures, desk_knows _ c.in_default.not-Withdrawal) c.make_kind.ensures

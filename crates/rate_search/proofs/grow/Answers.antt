@@ -1,4 +1,4 @@
-use Rattle.std.proofs.Common.{◌≡◌, ℕ, ◌+◌, ◌*◌, min, Bool, sym, ap, ◌∙◌, add-one, arith}
+use Rattle.std.proofs.Common.{◌≡◌, ℕ, ◌+◌, ◌*◌, min, Bool, sym, ap, ◌∙◌, add-one}
 use Rattle.fraction.specs.Rounding.{round_ℕ}
 use Rattle.method.specs.Units.{rate_unit}
 use Rattle.rate_search.specs.Search.{cap, growth_cut}
@@ -10,15 +10,14 @@ grown_more : (up : Bool) (m t : ℕ) {g r : ℕ} → g ≡ growth_cut up m t →
 grown_more up m t e r =
     r ∙ ap (λ (k : ℕ). min (round_ℕ up (k * m) rate_unit) cap) e ∙ sym (cut_more up m t) ∙ ap (growth_cut up m) (sym (add-one t))
 
-pub loop-year-init : goal.loop-year-init
-loop-year-init c = record { within = omega arith; here_is = sym (cut_none c.args.up c.args.m); next_is = sym (cut_none c.args.up (c.args.m + 1)) }
+pub loop-init : goal.loop-init
+loop-init c = record { here = sym (cut_none c.args.up c.args.m); next = sym (cut_none c.args.up (c.args.m + 1)) }
 
-pub loop-year-preserved : goal.loop-year-preserved
-loop-year-preserved c =
-    let l = c.loop-year in
+pub loop-preserved : goal.loop-preserved
+loop-preserved c =
+    let l = c.loop in
     let a = c.args in
     record {
-      within = omega arith;
-      here_is = grown_more a.up a.m l.year l.invariant.here_is c.year_on-here.ensures;
-      next_is = grown_more a.up (a.m + 1) l.year l.invariant.next_is c.year_on-next.ensures;
+      here = grown_more a.up a.m l.counter l.invariant.here c.year_on-here.ensures;
+      next = grown_more a.up (a.m + 1) l.counter l.invariant.next c.year_on-next.ensures;
     }

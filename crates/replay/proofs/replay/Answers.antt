@@ -1,17 +1,14 @@
-use native.Mathlib.Omega.{arith}
-use Rattle.journal.proofs.Decoding.{begins, ends, stops_here, goes_on}
+use Rattle.journal.proofs.Decoding.{begins, stops, falls, goes_on}
 use Rattle.replay.proofs.replay.Goals as goal
 
-pub loop-at-init : goal.loop-at-init
-loop-at-init c = rw c.fresh-book.ensures (begins _ _)
+pub loop-made-init : goal.loop-made-init
+loop-made-init c = rw c.fresh-book.ensures (begins _ _)
 
-pub returns-then-taken-eq0 : goal.returns-then-taken-eq0
-returns-then-taken-eq0 c =
-    stops_here _ _ _ _ c.loop-at.invariant _ c.make-made.ensures c.if-taken-eq0.true
+pub loop-made-preserved : goal.loop-made-preserved
+loop-made-preserved c = goes_on _ _ _ _ _ c.loop-made.invariant _ c.in-Ok.ensures
 
-pub loop-at-preserved : goal.loop-at-preserved
-loop-at-preserved c =
-    goes_on _ _ _ _ c.loop-at.invariant _ c.make-made.ensures (omega arith) (omega arith)
+pub loop-made-smaller : goal.loop-made-smaller
+loop-made-smaller c = falls _ _ _ _ _ c.loop-made.invariant _ c.in-Ok.ensures
 
 pub returns : goal.returns
-returns c = ends _ _ _ _ c.loop-at.invariant c.loop-at-test.false
+returns c = stops _ _ _ _ _ c.loop-made.invariant _ c.in_default.ensures

@@ -6,12 +6,12 @@ use Rattle.series.proofs.log_size.Goals as goal
 
 pub scale-s-requires : goal.scale-s-requires
 scale-s-requires c =
-    let z = z_bound_lem c.args.up c.requires.0 c.requires.1 (rw c.distance_to_unit.ensures at c.quotient-z.ensures) in
+    let z = z_bound_lem c.args.up c.requires.0 c.requires.1 (rw c.abs_diff.ensures at c.quotient-z.ensures) in
     omega (arith, mul-le-mul z z)
 
 pub loop-i-init : goal.loop-i-init
 loop-i-init c =
-    at_start c.args.up c.requires.0 c.requires.1 (rw c.distance_to_unit.ensures at c.quotient-z.ensures) c.scale-s.ensures
+    at_start c.args.up c.requires.0 c.requires.1 (rw c.abs_diff.ensures at c.quotient-z.ensures) c.scale-s.ensures
 
 pub loop-i-preserved : goal.loop-i-preserved
 loop-i-preserved c =

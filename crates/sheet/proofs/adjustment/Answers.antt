@@ -1,18 +1,16 @@
--- The last number where the layout has the record, 0 where it has not.
-use Prim.Native.Nat.{◌≤◌}
+-- Where the record stands there is a last number.
+use mathlib.Core.Path.{◌∙◌, sym}
+use Prim.Native.Nat.{◌-◌, ◌<◌}
 use native.Mathlib.Omega.{arith}
+use lib.IntN.{pos}
 use lib.ListN.{length}
+use Rattle.std.proofs.lemmas.Option.{slice_get-get_or}
 use Rattle.method.proofs.Slots.{slots_adjusts}
 use Rattle.sheet.specs.Views.{as_layout}
 use Rattle.sheet.proofs.adjustment.Goals as goal
-use Rattle.sheet.proofs.adjustment.Goals.{Then-layout}
 
--- there is one
-last : (c : Then-layout) → 1 ≤ length c.args.numbers.now
-last c = omega (arith, c.requires.count, slots_adjusts (as_layout c.args.layout) c.if-layout.true)
-
-pub overflow_sub-result : goal.overflow_sub-result
-overflow_sub-result c = omega (arith, last c)
-
-pub bounds-numbers-numbers : goal.bounds-numbers-numbers
-bounds-numbers-numbers c = omega (arith, last c)
+pub returns-then-layout-clause-stands : goal.returns-then-layout-clause-stands
+returns-then-layout-clause-stands c =
+    let zs = c.args.numbers.now in
+    let some : length zs - 1 < length zs = omega (arith, c.requires.count, slots_adjusts (as_layout c.args.layout) c.if-layout.true) in
+    rw (c.copied.ensures ∙ c.last.ensures.value ∙ slice_get-get_or zs _ (pos 0) some) (sym c.if-layout.true)

@@ -4,24 +4,19 @@ use Rattle.sheet.proofs.Choosing.{neither, phased_alone, both, one_more}
 use Rattle.sheet.proofs.layout_of.Goals as goal
 
 pub returns-then-sheet-first : goal.returns-then-sheet-first
-returns-then-sheet-first c =
-    let s = c.args.sheet.now in
-    neither s c.names_profile-led.ensures c.profile_of-profile.ensures c.first_bytes-first.ensures c.if-sheet-first.true
+returns-then-sheet-first c = neither c.args.sheet.now c.names_profile.ensures c.profile_of.ensures c.size-first.ensures.0 c.if-sheet-first.true
 
 pub returns-then-not-may_adjust : goal.returns-then-not-may_adjust
 returns-then-not-may_adjust c =
-    let s = c.args.sheet.now in
-    phased_alone s c.names_profile-led.ensures c.profile_of-profile.ensures c.first_bytes-first.ensures c.if-sheet-first.false
+    phased_alone c.args.sheet.now c.names_profile.ensures c.profile_of.ensures c.size-first.ensures.0 c.if-sheet-first.false
     (sym c.may_adjust.ensures ∙ c.if-not-may_adjust.true)
 
 pub returns-then-first-sheet : goal.returns-then-first-sheet
 returns-then-first-sheet c =
-    let s = c.args.sheet.now in
-    both s c.names_profile-led.ensures c.profile_of-profile.ensures c.first_bytes-first.ensures c.if-first-sheet.true
+    both c.args.sheet.now c.names_profile.ensures c.profile_of.ensures c.size-first.ensures.0 c.if-first-sheet.true
     (sym c.may_adjust.ensures ∙ c.if-not-may_adjust.false)
 
 pub returns : goal.returns
 returns c =
-    let s = c.args.sheet.now in
-    one_more s c.names_profile-led.ensures c.profile_of-profile.ensures c.first_bytes-first.ensures c.if-sheet-first.false
+    one_more c.args.sheet.now c.names_profile.ensures c.profile_of.ensures c.size-first.ensures.0 c.if-sheet-first.false
     c.if-first-sheet.false (sym c.may_adjust.ensures ∙ c.if-not-may_adjust.false)

@@ -1,21 +1,21 @@
--- Invariant: no shift before the one at i does.
+-- Invariant: no shift before this one, which is the one at some place, does.
 use mathlib.Core.Path.{◌≡◌}
 use mathlib.Core.List.{List}
 use Prim.Native.Nat.{ℕ, ◌-◌, ◌≤◌}
+use lib.IntN.{ℤ}
+use Rattle.method.specs.Grounds.{done}
 use Rattle.method.specs.Sheet.{Numbers}
 use Rattle.valuation.specs.Block.{Flow}
-use Rattle.shift.specs.Shift.{shift_count, meets, first_shift}
+use Rattle.shift.specs.Shift.{shift_at, shift_count, meets, first_shift}
 use Rattle.sheet.specs.Views.{as_numbers}
-use Rattle.block.specs.declared.Block.{Block}
-use Rattle.shift_search.specs.Views.{BlockOf}
+use Rattle.block.specs.Views.{block_of}
 use Rattle.shift_search.proofs.search.Given as goal
 
-pub record Tried (n : Numbers) (b : Block) (target i : ℕ) : Type 0 where
+pub record Tried (n : Numbers) (totals : List ℕ) (target : ℕ) (s : ℤ) : Type 0 where
+  pub i : ℕ
   pub within : i ≤ 1_001
-  pub left : (fs : List Flow) → BlockOf b fs → first_shift (meets fs target n) shift_count 0 ≡ first_shift (meets fs target n) (shift_count - i) i
+  pub here : s ≡ shift_at i
+  pub left : (fs : List Flow) → block_of fs ≡ done totals → first_shift (meets fs target n) shift_count 0 ≡ first_shift (meets fs target n) (shift_count - i) i
 
-abbrev pub invariant-loop-i : goal.invariant-loop-i
-invariant-loop-i l = Tried (as_numbers l.n) l.b l.target l.i
-
-abbrev pub decreases-loop-i : goal.decreases-loop-i
-decreases-loop-i l = 1_001 - l.i
+abbrev pub invariant-loop-s : goal.invariant-loop-s
+invariant-loop-s l = Tried (as_numbers l.n) l.block l.target l.s

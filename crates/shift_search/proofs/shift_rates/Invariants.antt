@@ -1,7 +1,7 @@
 -- Invariant: the first i quotes are moved, and none of them has left its range.
 use mathlib.Core.Path.{◌≡◌}
 use mathlib.Core.List.{List}
-use Prim.Native.Nat.{ℕ, ◌-◌}
+use Prim.Native.Nat.{ℕ}
 use lib.IntN.{ℤ}
 use lib.ListN.{length, take, drop}
 use Rattle.method.proofs.Filling.{Filled}
@@ -15,6 +15,3 @@ pub record Moved (quotes : ℕ) (s : ℤ) (rates next : List ℤ) (i : ℕ) : Ty
 
 abbrev pub invariant-loop-i : goal.invariant-loop-i
 invariant-loop-i l = Moved l.quotes l.s l.rates l.next l.i
-
-abbrev pub decreases-loop-i : goal.decreases-loop-i
-decreases-loop-i l = l.quotes - l.i

@@ -1,6 +1,6 @@
 use mathlib.Core.Path.{◌≡◌, refl, ap, sym, ◌∙◌}
 use mathlib.Core.List.{List, [], ◌++◌, append-nil}
-use Prim.Native.Nat.{ℕ, ◌+◌}
+use Prim.Native.Nat.{ℕ, ◌+◌, ◌<◌}
 use native.Mathlib.Numerals.{add-one}
 use native.Mathlib.Omega.{arith}
 use lib.Dec.{lit≤}
@@ -15,7 +15,6 @@ pub loop-i-init : goal.loop-i-init
 loop-i-init c =
     let factors = c.args.factors.now in
     record {
-      long = c.requires;
       written = copied_none (replicate 150 0) (running_from 0 factors) _ 150 (lit≤ tt) (omega (arith, c.requires, running_length 0 factors)) refl;
       sum_is = refl;
       at_most = omega arith;
@@ -25,20 +24,19 @@ pub loop-i-preserved : goal.loop-i-preserved
 loop-i-preserved c =
     let l = c.loop-i in
     let factors = c.args.factors.now in
-    let more = c.loop-i-test.true in
-    let next = next_sum 0 factors l.i (omega (arith, l.invariant.long, more)) in
+    let more : l.i < 150 = omega arith in
+    let next = next_sum 0 factors l.i c.loop-i-test.true in
     let sum-now : l.sum + get_or factors l.i 0 ≡ get_or (running_from 0 factors) l.i 0 = rw l.invariant.sum_is (sym next) in
     record {
-      long = l.invariant.long;
       written = rw sum-now (copied_more (replicate 150 0) (running_from 0 factors) l.sums 150 l.i l.invariant.written more);
       sum_is = rw (add-one l.i) sum-now;
-      at_most = omega (arith, l.invariant.at_most, c.shared_slice_known-1.given l.i);
+      at_most = omega (arith, l.invariant.at_most, c.type_inv.factors l.i);
     }
 
 pub returns : goal.returns
 returns c =
     let l = c.loop-i in
     let factors = c.args.factors.now in
-    let all = copied_all (replicate 150 0) (running_from 0 factors) l.sums 150 l.i l.invariant.written c.loop-i-test.false in
-    let whole = take_all 150 (running_from 0 factors) (omega (arith, l.invariant.long, running_length 0 factors)) in
+    let all = copied_all (replicate 150 0) (running_from 0 factors) l.sums 150 l.i l.invariant.written (omega arith) in
+    let whole = take_all 150 (running_from 0 factors) (omega (arith, c.requires, running_length 0 factors)) in
     all ∙ ap (λ (xs : List ℕ). xs ++ []) whole ∙ append-nil (running_from 0 factors)

@@ -18,13 +18,13 @@ use Rattle.used_quotes.proofs.select.Goals.{In-loop-i, then-is_used, else-is_use
 
 -- a rate of the market is in its range
 small : (c : In-loop-i) (i : ℕ) → let n = c.args.n in i < quote_count (as_profile n.profile) → mag (get_or n.rates i (pos 0)) ≤ 12_000
-small c i h = rw (← get_or-take _ c.args.n.rates i (pos 0) h) (c.requires.rate_range i).small
+small c i h = rw (← get_or-take _ c.args.n.rates i (pos 0) h) (c.args.n.in_range.rate_range i).small
 
 inside : (c : In-loop-i) → c.loop-i.i < 17
-inside c = omega (arith, c.market_of-market.ensures.most, c.loop-i-test.true)
+inside c = omega (arith, c.market-market.ensures.most, c.loop-i-test.true)
 
-before_five : (c : In-loop-i) → c.loop-i.i < c.market_of-market.result.smoothing + 5
-before_five c = omega (arith, c.market_of-market.ensures.volumes, c.loop-i-test.true)
+before_five : (c : In-loop-i) → c.loop-i.i < c.market-market.result.smoothing + 5
+before_five c = omega (arith, c.market-market.ensures.volumes, c.loop-i-test.true)
 
 -- ---- the goals
 
@@ -36,9 +36,9 @@ loop-i-preserved c =
     let turn = (goal.at.loop-i-preserved c).In-loop-i in
     let l = c.loop-i in
     let n = c.args.n in
-    let s = c.market_of-market.result.smoothing in
+    let s = c.market-market.result.smoothing in
     let marked = sym c.is_used.ensures in
-    let rate = narrow_read (get_or n.rates l.i (pos 0)) (small turn l.i (rw (← c.market_of-market.ensures.quotes) c.loop-i-test.true)) in (
+    let rate = narrow_read (get_or n.rates l.i (pos 0)) (small turn l.i (rw (← c.market-market.ensures.quotes) c.loop-i-test.true)) in (
       elim c.if-is_used.branch [
         | then-is_used w ↦
             let mark = marked ∙ w.if-is_used.true in
@@ -56,8 +56,8 @@ returns c =
     let l = c.loop-i in
     let n = c.args.n in
     let p = as_profile n.profile in
-    let m = c.market_of-market.ensures in
+    let m = c.market-market.ensures in
     let all : l.i ≡ quote_count p = omega (arith, l.invariant.1, c.loop-i-test.false, m.quotes) in
     let selected = subst₂ (λ (s i : ℕ). Selected s n.volumes n.rates l.q i) m.smoothing all l.invariant.0 in
-    let both = selected_all p selected (λ i. (c.requires.rate_range i).small) in
+    let both = selected_all p selected (λ i. (c.args.n.in_range.rate_range i).small) in
     record { quotes = both.0; climb = both.1 }

@@ -1,0 +1,27 @@
+-- Invariant: what is left of the quotes, from the part so far, is the whole.
+use mathlib.Core.Path.{◌≡◌}
+use mathlib.Core.List.{List}
+use Prim.Native.Nat.{ℕ, ◌-◌}
+use lib.IntN.{ℤ}
+use lib.ListN.{length, take}
+use Rattle.bootstrap.specs.declared.Quotes.{Quotes}
+use Rattle.bootstrap.specs.declared.Liquid.{Liquid}
+use Rattle.bootstrap.proofs.Order.{Going}
+use Rattle.bootstrap.proofs.all_quotes.bootstrap.Given as goal
+
+-- as many as there are
+abbrev pub maturities_of : Quotes → List ℕ
+maturities_of q = take q.count q.maturities
+
+abbrev pub rates_of : Quotes → List ℤ
+rates_of q = take q.count q.rates
+
+pub record Quoted (q : Quotes) (w : Liquid) (i : ℕ) : Type 0 where
+  pub long : length (maturities_of q) ≡ q.count
+  pub going : Going (maturities_of q) (rates_of q) w i
+
+abbrev pub invariant-loop-i : goal.invariant-loop-i
+invariant-loop-i l = Quoted l.q l.liquid l.i
+
+abbrev pub decreases-loop-i : goal.decreases-loop-i
+decreases-loop-i l = l.q.count - l.i

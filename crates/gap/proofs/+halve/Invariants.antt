@@ -1,6 +1,0 @@
--- Measure: the distance of the ends, which falls at each call.
-use Prim.Native.Nat.{◌-◌}
-use Rattle.gap.proofs.+halve.Given as goal
-
-abbrev pub decreases-halve : goal.decreases-halve
-decreases-halve l = l.hi - l.lo
