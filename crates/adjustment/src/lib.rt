@@ -9,11 +9,12 @@ ghost use Rattle.method.specs.Extrapolation.{billionths, first_raised};
 ghost use Rattle.extrapolation.specs.Extrapolated.{as_forwards, GrowthFor, ForwardSizes};
 ghost use Rattle.adjustment.specs.Adjusting.{steps_by, Small, most_steps, FactorsTo, Adjusts};
 
-use extrapolation::{Forwards, HIGHEST_FACTOR, Years};
+use extrapolation::{Forwards, Years};
 use grounds::Ground;
+use rounding::HIGHEST_FACTOR;
 
-// The years that are adjusted; all later ones are extrapolated.
-const SMOOTHING_YEAR: usize = 20;
+// The euro's, the latest of the markets'. The years to it are adjusted; all later ones are extrapolated.
+pub const SMOOTHING_YEAR: usize = 20;
 
 // Hundred-thousandths, in billionths.
 fn billionths(a: i64) -> i64
@@ -46,7 +47,7 @@ fn steps(f: i64, growth: u64, factor: u64, t: usize, up: bool) -> u64
     x
 }
 
-// The years to 20, or the first that ground 8 refuses; those after them are as they came.
+// The years to 20, or the first that ground 8 refuses; those after them are as they came. By index, because the index is the year.
 pub fn adjusted_years(a: i64, mut years: Years) -> Result<Years, Ground>
     requires { (nat_abs a ≤ 500) × FactorsTo years }
     ensures { Adjusts a years result }

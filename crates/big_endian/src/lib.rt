@@ -36,7 +36,7 @@ pub fn byte(n: u64) -> u8
     (n % 256) as u8
 }
 
-// Writes the lowest bytes of n, so many, into the buffer from `at` on.
+// Writes the lowest bytes of n, so many, into the buffer from `at` on. Not by `to_be_bytes`, which would ask for a width of at most 8.
 pub fn put(n: u64, width: usize, at: usize, out: &mut [u8])
     requires { at + width ≤ length out.old }
     ensures { out.new ≡ put_at at (in_bytes width n) out.old }
@@ -48,7 +48,7 @@ pub fn put(n: u64, width: usize, at: usize, out: &mut [u8])
     }
 }
 
-// In 32 bits.
+// In 32 bits. Two cases, because the definition leaves a number from 0 up unreduced.
 pub fn twos_complement(z: i64) -> u64
     ensures { result ≡ twos_complement32 z }
 {

@@ -5,9 +5,10 @@ use Prim.Native.Nat.{ℕ, zero, suc, ◌+◌, ◌*◌, ◌/◌, ◌%◌, ◌<◌
 use native.Mathlib.Omega.{arith}
 use lib.ListN.{length, get_or}
 use borrow.Author.Tests.{eq-eqb, ne_eqb}
+use Rattle.method.specs.Grounds.{refused, wrong_count}
 use Rattle.valuation.specs.Block as valuation
 use Rattle.block.specs.declared.Flow.{Flow}
-use Rattle.block.specs.Views.{in_turn, paired, no_flow, Lists}
+use Rattle.block.specs.Views.{in_turn, paired, no_flow, block_of, Lists}
 
 -- ---- by the one test
 
@@ -15,9 +16,9 @@ paired_even : (l : List ℕ) → length l % 2 ≡ 0 → paired l ≡ in_turn l
 unfolding paired
 paired_even l h = rw (eq-eqb (length l % 2) 0 h)
 
-paired_odd : (l : List ℕ) → (length l % 2 ≡ 0 → ⊥) → paired l ≡ []
-unfolding paired
-paired_odd l h = rw (ne_eqb (length l % 2) 0 h)
+pub odd_refused : (l : List ℕ) → (length l % 2 ≡ 0 → ⊥) → block_of (paired l) ≡ refused wrong_count
+unfolding paired block_of valuation.block_checked
+odd_refused l h = rw (ne_eqb (length l % 2) 0 h) refl
 
 -- ---- in turn
 
@@ -54,6 +55,3 @@ module _ (l : List ℕ) (answers : ℕ → Flow → Type 0) where
         long = turn-length l;
         each = λ i f k a. let (year, cents) = h i f k a in rw (year, cents) (in_pairs i) ∙ sym (turn_at l i (omega (arith, turn-length l)));
       })
-
-  pub lists_odd : (length l % 2 ≡ 0 → ⊥) → Lists answers 0 (paired l)
-  lists_odd e = rw (paired_odd l e) (record { long = refl; each = λ i f k. absurd (omega arith) })

@@ -75,17 +75,15 @@ pub fn block_of(flows: &[Flow]) -> Result<Block, Ground>
     listed(flows.len(), |i| flows[i])
 }
 
-// The same list as plain numbers, year and cents in turn, for C. An odd count is refused as an empty list is.
+// The same list as plain numbers, year and cents in turn, for C. An odd count is of no list.
 pub fn block_of_numbers(numbers: &[u64]) -> Result<Block, Ground>
     ensures { as_answered result ≡ block_of (paired numbers.now) }
 {
-    let count = if numbers.len() % 2 == 0 {
-        numbers.len() / 2
-    } else {
-        0
-    };
+    if numbers.len() % 2 != 0 {
+        return Err(Ground::WrongCount);
+    }
     listed(
-        count,
+        numbers.len() / 2,
         |i| Flow {
             year: numbers[2 * i],
             cents: numbers[2 * i + 1],

@@ -1,4 +1,5 @@
-// The quotes in the order of their maturities.
+// The quotes in the order of their maturities. Apart from lib.rt, because its clauses cite
+// the view of Liquid, which a file that declares Liquid with its invariant does not import at its head.
 #![tactic(auto)]
 
 ghost use Rattle.std.specs.Prelude.{◌≡◌};
@@ -15,8 +16,8 @@ pub fn bootstrap(q: Quotes) -> Result<Liquid, Ground>
     ensures outcome { outcome_of as_bootstrap result ≡ bootstrap (as_quotes q) }
 {
     let mut liquid = Liquid::fresh();
-    for i in 0..q.count {
-        liquid.years_to(q.maturities[i], q.rates[i] as i64)?;
+    for (maturity, rate) in q.maturities[..q.count].iter().zip(&q.rates[..q.count]) {
+        liquid.years_to(*maturity, *rate as i64)?;
     }
     Ok(liquid)
 }

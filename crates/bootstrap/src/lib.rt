@@ -18,16 +18,7 @@ mod all_quotes;
 pub use all_quotes::bootstrap;
 use gap::Gap;
 use grounds::Ground;
-use rounding::{Pair, SignedPair, UNIT};
-
-// 1, at both ends.
-pub const ONE: Pair = Pair {
-    low: UNIT,
-    high: UNIT,
-};
-
-// Ground 8 refuses a high above it.
-const HIGHEST_FACTOR: i64 = 2_000_000_000;
+use rounding::{HIGHEST_FACTOR, ONE, Pair, SignedPair};
 
 // The first `count` of them, in the order of their maturities.
 #[derive(Clone, Copy)]
@@ -60,7 +51,7 @@ fn judge(year: u64, low: i64, high: i64) -> Result<Pair, Ground>
     if low < 1 {
         return Err(Ground::LowBelowOne(year));
     }
-    if HIGHEST_FACTOR < high {
+    if (HIGHEST_FACTOR as i64) < high {
         return Err(Ground::HighAboveLimit(year));
     }
     Ok(Pair {

@@ -10,21 +10,12 @@ ghost use Rattle.method.specs.Extrapolation.{cut, convergence_factor, κ_pairs, 
 ghost use Rattle.rounding.specs.Pairs.{as_pair, PairAtMost};
 ghost use Rattle.convergence.specs.Weights.{Factor, TableEntry, WeightsOf};
 
-use rounding::{Pair, UNIT};
+use rounding::{ONE, Pair, UNIT};
 
-// Of one, and of 10%, in hundred-millionths.
-const ONE: u64 = 100_000_000;
+// 100% and 10%, in hundred-millionths.
+const HUNDRED_PERCENT: u64 = 100_000_000;
 
 const TEN_PERCENT: u64 = 10_000_000;
-
-// P before the first year.
-const WHOLE: Pair = Pair {
-    low: UNIT,
-    high: UNIT,
-};
-
-// Years 11 to 150: no market extrapolates more.
-const LATER_YEARS: usize = 140;
 
 // K(h) of SPECIFICATION 5.2, h from 1 to 140, at index h - 1.
 const K: [u64; 140] = [
@@ -43,7 +34,7 @@ const K: [u64; 140] = [
     3546, 3208, 2903, 2627, 2377, 2150, 1946, 1761, 1593, 1441, 1304, 1180, 1068, 966, 874,
 ];
 
-// κ's pairs, for h from 1 to 140 at index h - 1.
+// κ's pairs, for h from 1 to 140 at index h - 1: years 11 to 150, no market extrapolates more.
 pub type Weights = [Pair; 140];
 
 // ---- the factor
@@ -72,11 +63,12 @@ pub fn table() -> [u64; 140]
     K
 }
 
+// Not by `map`: the closure's sum, K + 1, stays open.
 fn tabled() -> Weights
     ensures { map as_pair result ≡ κ_pairs table }
 {
     let lows = table();
-    let mut weights = [WHOLE; 140];
+    let mut weights = [ONE; 140];
     for (i, k) in lows.iter().enumerate() {
         weights[i] = Pair {
             low: *k,
@@ -101,7 +93,7 @@ fn scale_end(a: u64, q: u64, up: bool) -> u64
     requires { Factor a × (q ≤ U) }
     ensures { (result ≡ round_ℕ up ((U - q) * 100_000_000) a) × (result ≤ 10 * U) }
 {
-    rounding::quotient((UNIT - q) * ONE, a, up)
+    rounding::quotient((UNIT - q) * HUNDRED_PERCENT, a, up)
 }
 
 // a × b / U, each end rounded outward.
@@ -130,10 +122,10 @@ fn worked(q: Pair, m: Pair) -> Weights
     requires { PairAtMost U q × PairAtMost (10 * U) m }
     ensures { map as_pair result ≡ weights_from (as_pair q) (as_pair m) (pair U U) 140 }
 {
-    let mut weights = [WHOLE; 140];
-    let mut p = WHOLE;
-    for i in 0..LATER_YEARS {
-        weights[i] = cut_to_unit(scaled(p, m));
+    let mut weights = [ONE; 140];
+    let mut p = ONE;
+    for weight in &mut weights {
+        *weight = cut_to_unit(scaled(p, m));
         p = scaled(p, q);
     }
     weights

@@ -19,19 +19,13 @@ ghost use Rattle.curve.specs.Curves.{as_curve, as_curves, first_years, quoted_in
 ghost use Rattle.curve.specs.Curves.{year_or_none, banded, WorkedQuotes, Onward, Extending, Ready};
 ghost use Rattle.curve.specs.Alike.{each_alike};
 
+use adjustment::SMOOTHING_YEAR;
 use bootstrap::Liquid;
 use extrapolation::{Forwards, Years};
+use gap::{LOWER_END, UPPER_END};
 use grounds::Ground;
 use rounding::{Pair, SignedPair};
 use sheet::{Numbers, Profile};
-
-// The ends of a gap's x, and of one year's over the year before.
-const LOWER_END: u64 = 800_000_000;
-
-const UPPER_END: u64 = 1_100_000_000;
-
-// The euro's smoothing year.
-const LATEST_SMOOTHING: usize = 20;
 
 // The year that profile 2 smooths from, its last quote's.
 const YEAR_TEN: usize = 10;
@@ -137,7 +131,7 @@ fn first_years(q: Liquid, year: usize) -> Years
         lows: [0; 150],
         highs: [0; 150],
     };
-    for i in 0..LATEST_SMOOTHING {
+    for i in 0..SMOOTHING_YEAR {
         if year <= i {
             return years;
         }

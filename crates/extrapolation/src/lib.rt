@@ -15,12 +15,9 @@ ghost use Rattle.extrapolation.specs.Extrapolated.{as_forwards, signed_end, fact
 ghost use Rattle.extrapolation.specs.Extrapolated.{ForwardSizes, WeightRange, InRange, Usable, Ahead, Extrapolates, Kept};
 
 use grounds::Ground;
-use rounding::{Pair, Pairs, SignedPair, UNIT};
+use rounding::{HIGHEST_FACTOR, Pair, Pairs, SignedPair, UNIT};
 
 const SIGNED_UNIT: i64 = UNIT as i64;
-
-// Ground 8 refuses a high above it.
-pub const HIGHEST_FACTOR: u64 = 2_000_000_000;
 
 // The forwards of five gaps.
 pub type Forwards = [SignedPair; 5];
@@ -83,7 +80,7 @@ fn signed_end(f: SignedPair, up: bool) -> i64
     if up { f.high } else { f.low }
 }
 
-// The highs, or the lows.
+// The highs, or the lows. Not by `map`: the check does not derive the list that it maps to.
 fn ends(g: Forwards, up: bool) -> [i64; 5]
     ensures { result ≡ map (signed_end up) g }
 {

@@ -14,17 +14,15 @@ ghost use Rattle.gap.specs.Gaps.{largest, SumsOf, SideOf};
 mod quote_gap;
 
 pub use quote_gap::Gap;
-use rounding::{Pair, UNIT};
-
-const RATE_UNIT: u64 = 100_000;
+use rounding::{Pair, RATE_UNIT, UNIT};
 
 // Of a swap's value.
 const PAR: u64 = 100_000_000_000_000;
 
-// The ends that the halving starts from.
-const LOWER_END: u64 = 800_000_000;
+// The ends that the halving starts from, of a gap's x and of one year's over the year before.
+pub const LOWER_END: u64 = 800_000_000;
 
-const UPPER_END: u64 = 1_100_000_000;
+pub const UPPER_END: u64 = 1_100_000_000;
 
 // In a trial of so many years every product of T and x fits 64 bits.
 const SHORT: u64 = 20;

@@ -22,7 +22,7 @@ pub struct Kept {
 }
 
 // The sheet that stands, and as many ways back as the depth says, the latest first: each is the sheet that stood, if one did. A depth above 3 counts
-// as 3.
+// as 3. It is a number of its own, because a way back may be to no sheet, so that an Option can't count them.
 #[derive(Clone, Copy)]
 pub struct History {
     pub sheet: Option<Kept>,

@@ -1,4 +1,4 @@
-// The byte that begins a record.
+// The byte that begins a record. Apart from lib.rt, whose clauses cite the view of this type.
 ghost use Rattle.journal.specs.Kinds.{Decodes};
 
 use crate::NoCall;

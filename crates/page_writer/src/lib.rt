@@ -44,6 +44,7 @@ fn put_next_year<'a>(lows: &'a [u32], highs: &'a [u32], t: usize, out: &mut [u8]
 
 // ---- years 1 to t; of 150 years the whole page
 
+// Each record goes straight to its own bytes: the named form of the page, a year at a time.
 pub fn write_to<'a>(
     month: u64,
     age: u64,

@@ -130,13 +130,17 @@ impl Search {
         g.here <= self.bound && (hi <= m + 1 || self.bound < g.next)
     }
 
-    // `near` is tried first, if it lies between the ends, then the guess. Both are tested, and where both are wrong the exact growth
+    // `near`, where one is known, is tried first, if it lies between the ends, then the guess. Both are tested, and where both are wrong the exact growth
     // finds the place: that costs more than ten times as much, and is hardly ever needed.
-    fn turning_point(&self, near: u64, lo: u64, hi: u64) -> u64
+    fn turning_point(&self, near: Option<u64>, lo: u64, hi: u64) -> u64
         requires { (lo < hi) × (hi ≤ 200_001) × (self.now.bound ≤ unit_squared) }
         ensures { Turns self.now.up self.now.years self.now.bound lo hi result }
     {
-        if lo <= near && near < hi && self.turns(near, hi) {
+        if let Some(near) = near
+            && lo <= near
+            && near < hi
+            && self.turns(near, hi)
+        {
             return near;
         }
         let guess = halve(|m| self.nearly_within(m), lo, hi);
@@ -160,7 +164,7 @@ fn low_multiplier(high: u64, years: u64, short: u64) -> u64
         bound: UNIT_SQUARED / high,
         up: true,
     };
-    stays.turning_point(short, 50_000, 200_001)
+    stays.turning_point(Some(short), 50_000, 200_001)
 }
 
 fn rate(multiplier: u64) -> i64
@@ -182,7 +186,7 @@ pub fn zero_rates(years: u64, low: u64, high: u64) -> Result<SignedPair, Ground>
         bound: (UNIT_SQUARED - 1) / low,
         up: false,
     };
-    let short = misses.turning_point(0, 49_999, 200_001);
+    let short = misses.turning_point(None, 49_999, 200_001);
     if 200_000 <= short {
         return Err(Ground::NoHighRate);
     }

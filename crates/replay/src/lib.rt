@@ -8,8 +8,7 @@ ghost use Rattle.shift.specs.Meaning.{ShiftTells};
 ghost use Rattle.ledger.specs.Calls.{look_at, page_into, value_of};
 ghost use Rattle.ledger.specs.Tells.{Tells};
 ghost use Rattle.ledger.specs.Demands.{Demand3, Withdraws};
-ghost use Rattle.grounds.specs.Answers.{as_ground};
-ghost use Rattle.grounds.specs.Answers.{outcome_of, refusal_number, refusal_place};
+ghost use Rattle.grounds.specs.Answers.{as_ground, outcome_of, refusal_number, refusal_place};
 ghost use Rattle.block.specs.Views.{paired};
 ghost use Rattle.book.specs.Views.{as_which, as_wanted, as_book, as_finding, as_value, paged_by};
 ghost use Rattle.journal.specs.Journal.{front, decode};
@@ -66,6 +65,8 @@ pub fn value_after(age_limit: u64, calls: &[u8], numbers: &[u64]) -> Result<Valu
 }
 
 // ---- the same for programs in C
+
+// Kinds are bits, and results and refusals numbers of 64 bits, because the C interface has no others.
 
 // Bit 0 names the adjusted curve.
 fn which_by(kind: u64) -> Which
@@ -129,13 +130,16 @@ fn answered<T>(answer: &Result<T, Ground>) -> u64
     }
 }
 
-// Of one more call; 255 where none was made.
+// Beyond every ground's number, for the C interface.
+const NO_CALL: u64 = 255;
+
+// Of one more call; `NO_CALL` where none was made.
 fn replied(made: Result<Made, NoCall>) -> u64
     requires { reply_place (as_replied made) ≤ 1_000 }
     ensures { result ≡ replied (as_replied made) }
 {
     let Ok(made) = made else {
-        return 255;
+        return NO_CALL;
     };
     match made.reply {
         Reply::Posted(answer) => answered(&answer),
@@ -159,7 +163,7 @@ pub fn tuyqorem_look_after(
 {
     match look_after(age_limit, calls, which_by(kind), wanted_by(kind), year) {
         Err(g) => packed(g),
-        Ok(_) if out.len() < 28 => 15,
+        Ok(_) if out.len() < 28 => packed(Ground::BufferTooShort),
         Ok(finding) => {
             put_found(finding, out);
             0
@@ -183,7 +187,7 @@ pub fn tuyqorem_value_after(age_limit: u64, calls: &[u8], flows: &[u64], out: &m
 {
     match value_after(age_limit, calls, flows) {
         Err(g) => packed(g),
-        Ok(_) if out.len() < 20 => 15,
+        Ok(_) if out.len() < 20 => packed(Ground::BufferTooShort),
         Ok(value) => {
             put_dated(value.low, value.high, value.month, value.age, out);
             0
@@ -198,7 +202,7 @@ pub fn tuyqorem_shift(sheet: &[u8], flows: &[u64], target: u64, out: &mut [u8]) 
 {
     match shift_search::shift_of_numbers(sheet, flows, target) {
         Err(g) => packed(g),
-        Ok(_) if out.len() < 2 => 15,
+        Ok(_) if out.len() < 2 => packed(Ground::BufferTooShort),
         Ok(shift) => {
             put(twos_complement(shift), 2, 0, out);
             0

@@ -3,12 +3,18 @@
 #![tactic(auto)]
 
 ghost use Rattle.std.specs.Prelude.{◌≡◌, ◌+◌, ◌*◌, ◌/◌, ◌^◌, ◌≤◌, ◌<◌, pos, nat_abs, ◌<ℤ◌};
-ghost use Rattle.fraction.specs.Rounding.{U, ceiling, round_ℤ, round_ℕ};
+ghost use Rattle.fraction.specs.Rounding.{U, ceil_div, ceiling, round_ℤ, round_ℕ};
 ghost use Rattle.method.specs.Units.{end_of};
 ghost use Rattle.rounding.specs.Pairs.{as_pair};
 
 // U of the definitions.
 pub const UNIT: u64 = 1_000_000_000;
+
+// Of rates, which are in hundred-thousandths.
+pub const RATE_UNIT: u64 = 100_000;
+
+// Ground 8 refuses a high above it.
+pub const HIGHEST_FACTOR: u64 = 2_000_000_000;
 
 // A low and a high.
 #[derive(Clone, Copy)]
@@ -19,6 +25,12 @@ pub struct Ends<T> {
 
 // Factors and yearly factors.
 pub type Pair = Ends<u64>;
+
+// 1, at both ends.
+pub const ONE: Pair = Pair {
+    low: UNIT,
+    high: UNIT,
+};
 
 // Logarithms and forwards, of either sign.
 pub type SignedPair = Ends<i64>;
@@ -37,11 +49,19 @@ pub fn end(p: Pair, up: bool) -> u64
     if up { p.high } else { p.low }
 }
 
+// By one division: the library's `div_ceil` takes the remainder too, a fifth more of a late year's look-up.
+fn ceiling(a: u64, b: u64) -> u64
+    requires { 0 < b }
+    ensures { result ≡ ceil_div a b }
+{
+    if a == 0 { 0 } else { (a - 1) / b + 1 }
+}
+
 pub fn quotient(a: u64, b: u64, up: bool) -> u64
     requires { 0 < b }
     ensures { result ≡ round_ℕ up a b }
 {
-    if up { a.div_ceil(b) } else { a / b }
+    if up { ceiling(a, b) } else { a / b }
 }
 
 // a * m / b, whose product may not fit: the whole b's of a need no rounding, and leave a rest that fits.

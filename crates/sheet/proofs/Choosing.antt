@@ -1,16 +1,60 @@
--- The layout by the tests of the code: the market and the length of its own records are the definition's.
-use mathlib.Core.Path.{◌≡◌, refl, ◌∙◌}
-use mathlib.Core.Bool.{Bool, true, false, not}
+-- The profile and the layout by the tests of the code: the market and the length of its own records are the definition's.
+use mathlib.Core.Path.{◌≡◌, refl, sym, ◌∙◌}
+use mathlib.Core.Bool.{Bool, true, false, not, cond, ◌&&◌, ◌||◌}
 use mathlib.Core.List.{List}
-use Prim.Native.Nat.{ℕ, ◌+◌, ◌≤◌, ◌<◌}
+use Prim.Native.Nat.{ℕ, zero, suc, ◌+◌, ◌≤◌, ◌<◌}
 use native.Mathlib.Omega.{arith}
-use borrow.Author.Tests.{lt-ltb, le-ltb}
-use lib.Dec.{eqb, ltb}
+use borrow.Author.Tests.{lt-ltb, le-ltb, ne_eqb}
+use lib.Dec.{eqb, ltb, leb}
 use lib.ListN.{length, get_or}
-use Rattle.method.specs.Sheet.{Profile, adjustable, names_profile, shortest, profile_of, layout_of, size_of}
-use Rattle.method.proofs.Outcome.{split}
+use Rattle.std.specs.Prelude.{Result, Ok, Err}
+use Rattle.std.specs.Result.{result_unwrap_or}
+use Rattle.method.specs.Grounds.{done, refused, unknown_profile, Outcome}
+use Rattle.method.specs.Sheet.{Profile, euro, profile_by, profile_known, adjustable, names_profile, shortest, profile_of, layout_of, size_of}
+use Rattle.method.proofs.Outcome.{split, done_injective, refused_not_done}
 use Rattle.method.proofs.Slots.{size_is}
 use Rattle.method.proofs.Layouts.{layout, layout_is, first_bytes}
+use Rattle.grounds.specs.declared.Ground.{Ground}
+use Rattle.grounds.specs.Answers.{as_ground, outcome_of}
+use Rattle.sheet.specs.declared.Profile as code
+use Rattle.sheet.specs.Views.{as_profile}
+
+-- ---- the profile
+
+-- a code that names none is the definition's euro
+by_unknown : (n : ℕ) → (leb 1 n && leb n 3) ≡ false → profile_by n ≡ euro
+by_unknown zero e = refl
+by_unknown (suc zero) e = refl
+by_unknown (suc (suc zero)) e = absurd cc
+by_unknown (suc (suc (suc zero))) e = absurd cc
+by_unknown (suc (suc (suc (suc n)))) e = rw (ne_eqb (suc (suc (suc (suc n)))) 2 (λ x. omega arith), ne_eqb (suc (suc (suc (suc n)))) 3 (λ x. omega arith)) refl
+
+or_false : (a b : Bool) → (a || b) ≡ false → b ≡ false
+or_false true b e = absurd cc
+or_false false b e = e
+
+unknown_euro : (s : List ℕ) → profile_known s ≡ false → profile_of s ≡ euro
+unknown_euro s e =
+    split (names_profile s) (λ t. rw t (by_unknown (get_or s 1 0) (or_false _ _ e))) (λ f. rw f refl)
+
+abbrev Profiled : List ℕ → Result code.Profile Ground → Type 0
+Profiled s r = outcome_of as_profile r ≡ cond (profile_known s) (done (profile_of s)) (refused unknown_profile)
+
+pub chosen : (s : List ℕ) (r : Result code.Profile Ground) {p : code.Profile} → Profiled s r → p ≡ result_unwrap_or r code.Profile.Euro → as_profile p ≡ profile_of s
+chosen s (Ok q) named is =
+    split (profile_known s) (λ t. rw is (done_injective (rw t at named))) (λ f. absurd (refused_not_done (sym (rw f at named))))
+chosen s (Err g) named is =
+    split (profile_known s) (λ t. absurd (refused_not_done (rw t at named))) (λ f. rw is (sym (unknown_euro s f)))
+
+pub known_by : (s : List ℕ) (p : code.Profile) → Profiled s (Ok p) → profile_known s ≡ true
+known_by s p named = split (profile_known s) (λ t. t) (λ f. absurd (refused_not_done (sym (rw f at named))))
+
+pub unknown_by : (s : List ℕ) (g : Ground) → Profiled s (Err g) → (profile_known s ≡ false) × (as_ground g ≡ unknown_profile)
+unknown_by s g named =
+    split (profile_known s) (λ t. absurd (refused_not_done (rw t at named)))
+    (λ f. let e : ◌≡◌ {A = Outcome Profile} (refused (as_ground g)) (refused unknown_profile) = rw f at named in (f, cc))
+
+-- ---- the layout
 
 module _ (s : List ℕ) {led : Bool} {p : Profile} {n : ℕ} (named : led ≡ names_profile s) (market : p ≡ profile_of s)
     (bytes : n ≡ size_of (shortest led p)) where

@@ -6,6 +6,7 @@ ghost use Rattle.method.specs.Sheet.{kind_byte, maturity_bytes, number_bytes, bo
 ghost use Rattle.method.specs.Sheet.{names_profile, profile_of, profile_known, layout_of, size_of, slots_of, slot_at};
 ghost use Rattle.method.specs.Sheet.{body_of, twos_complement16, reading, number_of_record, right_record, in_range, first_failure};
 ghost use Rattle.method.specs.Sheet.{month_index, volume_index, ultimate_index, rate, total, numbers_of, read_sheet};
+ghost use Rattle.method.specs.Grounds.{done, refused, unknown_profile};
 ghost use Rattle.method.specs.Ranges.{NumbersInRange};
 ghost use Rattle.grounds.specs.Answers.{outcome_of};
 ghost use Rattle.sheet.specs.Views.{as_profile, as_layout, as_kind, as_slot, as_numbers};
@@ -32,7 +33,7 @@ pub struct Market {
 }
 
 // Which records a sheet has: whether the profile's stands first, and the profile; whether the phase-in's follows the limit's, and whether
-// the adjustment's stands last.
+// the adjustment's stands last. `led` stands beside the profile because the specification tries each ground on the whole sheet.
 #[derive(Clone, Copy)]
 pub struct Layout {
     pub led: bool,
@@ -53,7 +54,7 @@ pub enum Kind {
     Profile,
 }
 
-// What is due at one place of the sheet: a kind, and a maturity, 0 where the kind has none.
+// What is due at one place of the sheet: a kind, and a maturity, 0 where the kind has none, as the specification's slot has it.
 #[derive(Clone, Copy)]
 pub struct Entry {
     pub kind: Kind,
@@ -76,6 +77,7 @@ struct Form {
 }
 
 // One record: whether its kind and maturity are due, whether its number is in range, the number, and the byte after the record.
+// A number stands beside a failed test because the specification tries each ground on the whole sheet.
 #[derive(Clone, Copy)]
 struct Reading {
     right: bool,
@@ -165,35 +167,20 @@ impl TryFrom<u8> for Profile {
 
 // ---- the layout
 
-// 0 past the end.
-fn byte_at(sheet: &[u8], i: usize) -> u8
-    ensures { result ≡ get_or sheet.now i 0 }
-{
-    sheet.get(i).copied().unwrap_or(0)
-}
-
 fn names_profile(sheet: &[u8]) -> bool
     ensures { result ≡ names_profile sheet.now }
 {
-    byte_at(sheet, 0) == 0x08
+    sheet.first() == Some(&0x08)
 }
 
-// The euro also without the record.
-fn profile_of(sheet: &[u8]) -> Profile
-    ensures { as_profile result ≡ profile_of sheet.now }
+// 19, or the profile that is named; the euro where none is, and on a lone hex 08.
+fn profile_of(sheet: &[u8]) -> Result<Profile, Ground>
+    ensures { outcome_of as_profile result ≡ cond (profile_known sheet.now) (done (profile_of sheet.now)) (refused unknown_profile) }
 {
-    if names_profile(sheet) {
-        Profile::try_from(byte_at(sheet, 1)).unwrap_or(Profile::Euro)
-    } else {
-        Profile::Euro
+    match sheet {
+        [0x08, code, ..] => Profile::try_from(*code),
+        _ => Ok(Profile::Euro),
     }
-}
-
-// Ground 19's test.
-fn profile_known(sheet: &[u8]) -> bool
-    ensures { result ≡ profile_known sheet.now }
-{
-    !names_profile(sheet) || sheet.len() <= 1 || Profile::try_from(byte_at(sheet, 1)).is_ok()
 }
 
 // What a record adds where it stands.
@@ -210,7 +197,7 @@ pub fn layout_of(sheet: &[u8]) -> Layout
 {
     let shortest = Layout {
         led: names_profile(sheet),
-        profile: profile_of(sheet),
+        profile: profile_of(sheet).unwrap_or(Profile::Euro),
         phased: false,
         adjusts: false,
     };
@@ -355,7 +342,7 @@ impl Kind {
     }
 
     // Ground 3's test: the lowest number and the highest.
-    fn admits(self, z: i64) -> bool
+    pub fn admits(self, z: i64) -> bool
         ensures { result ≡ in_kind (as_kind self) z }
     {
         let range = match self {
@@ -434,7 +421,7 @@ fn read_record(sheet: &[u8], slot: Slot) -> Reading
 
 // ---- all records
 
-// Each record is read once, for both tests and its number, and starts where the one before it ends.
+// Each record is read once, for both tests and its number, and starts where the one before it ends. The index is the place, so it is kept.
 fn read_records(sheet: &[u8], layout: Layout) -> Records
     requires { length sheet.now ≡ size_of (as_layout layout) }
     ensures wrong { result.wrong ≡ found (first_failure (right_record sheet.now) 1 (slots_of (as_layout layout))) }
@@ -463,6 +450,7 @@ fn read_records(sheet: &[u8], layout: Layout) -> Records
 
 // ---- the numbers of a sheet whose records pass
 
+// Rates and volumes are two loops because the conversions and their bounds differ.
 fn rates(numbers: &[i64]) -> [i16; 17]
     requires { Run rate numbers.now × (length numbers.now ≤ 17) }
     ensures { take (length numbers.now) result ≡ numbers.now }
@@ -554,9 +542,7 @@ fn numbers_of(numbers: &[i64], layout: Layout) -> Numbers
 pub fn read(sheet: &[u8]) -> Result<Numbers, Ground>
     ensures { outcome_of as_numbers result ≡ read_sheet sheet.now }
 {
-    if !profile_known(sheet) {
-        return Err(Ground::UnknownProfile);
-    }
+    profile_of(sheet)?;
     let layout = layout_of(sheet);
     if sheet.len() != layout.size() {
         return Err(Ground::WrongLength);

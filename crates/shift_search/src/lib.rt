@@ -13,15 +13,9 @@ ghost use Rattle.shift_search.specs.Views.{ShiftedAs, CostsAtMost, Meets, Search
 
 use block::{Block, Flow};
 use grounds::Ground;
-use sheet::Numbers;
+use sheet::{Kind, Numbers};
 
 // ---- the shifted sheet
-
-fn quote_inside(z: i64) -> bool
-    ensures { result ≡ (le_z (lowest rate) z && le_z z (highest rate)) }
-{
-    (-2_000..=12_000).contains(&z)
-}
 
 // Of the first quotes, so many; none where one of them leaves its range.
 fn shift_rates(rates: [i16; 17], quotes: usize, s: i64) -> Option<[i16; 17]>
@@ -32,7 +26,7 @@ fn shift_rates(rates: [i16; 17], quotes: usize, s: i64) -> Option<[i16; 17]>
     let mut next = rates;
     for i in 0..quotes {
         let rate = rates[i] as i64 + s;
-        if !quote_inside(rate) {
+        if !Kind::Rate.admits(rate) {
             return None;
         }
         next[i] = rate as i16;

@@ -12,8 +12,8 @@ ghost use Rattle.sheet.specs.Views.{as_numbers};
 ghost use Rattle.bootstrap.specs.Liquids.{as_quotes, as_bootstrap, QuotesClimb};
 ghost use Rattle.used_quotes.specs.Factors.{FactorOf};
 
-use bootstrap::{Liquid, ONE, Quotes};
-use rounding::{Pair, UNIT};
+use bootstrap::{Liquid, Quotes};
+use rounding::{ONE, Pair, UNIT};
 use sheet::Numbers;
 
 // The gap that ends with the euro's smoothing year.
@@ -29,7 +29,7 @@ fn is_used(smoothing: usize, volumes: [u64; 5], i: usize) -> bool
     i <= smoothing || 0 < volumes[i - smoothing]
 }
 
-// In the order of their maturities.
+// In the order of their maturities. Written in place: there is no heap to collect them in.
 pub fn select(n: Numbers) -> Quotes
     ensures quotes { as_quotes result ≡ used_quotes (as_numbers n) }
     ensures climb { QuotesClimb result }

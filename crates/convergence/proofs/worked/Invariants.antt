@@ -3,5 +3,5 @@ use Rattle.rounding.specs.Pairs.{as_pair}
 use Rattle.convergence.proofs.Working.{Worked}
 use Rattle.convergence.proofs.worked.Given as goal
 
-abbrev pub invariant-loop-i : goal.invariant-loop-i
-invariant-loop-i l = Worked (as_pair l.q) (as_pair l.m) l.weights l.p l.i
+abbrev pub invariant-loop-weight : goal.invariant-loop-weight
+invariant-loop-weight l = Worked (as_pair l.q) (as_pair l.m) l.weight-items l.p l.weight-index

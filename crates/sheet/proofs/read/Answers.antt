@@ -6,7 +6,8 @@ use Prim.Native.Nat.{ℕ}
 use lib.Dec.{ltb}
 use lib.IntN.{ℤ}
 use lib.ListN.{length, take}
-use Rattle.std.specs.Prelude.{Option, Some, None}
+use Rattle.std.specs.Prelude.{Option, Some, None, Err}
+use borrow.Author.Rules.{rules}
 use Rattle.method.specs.Grounds.{wrong_record, out_of_range, refused, done}
 use Rattle.method.specs.Sheet.{profile_known, Layout, layout_of, size_of, Slot, slots_of, number_of_record, right_record, in_range, first_failure}
 use Rattle.method.specs.Sheet.{all_numbers, total, Numbers, numbers_of, sheet_numbers, read_sheet}
@@ -16,9 +17,10 @@ use Rattle.method.proofs.SheetBounds.{read_bounds}
 use Rattle.sheet.specs.Views.{as_layout}
 use Rattle.sheet.specs.Records.{found, AllInside}
 use Rattle.sheet.proofs.Places.{place_found, none_found}
+use Rattle.sheet.proofs.Choosing.{known_by, unknown_by}
 use Rattle.sheet.proofs.Ranges.{all_inside}
 use Rattle.sheet.proofs.read.Goals as goal
-use Rattle.sheet.proofs.read.Goals.{Else-not-profile_known, Else-sheet-size, In_default, In_default-outside, After-count, Else-not-any_traded}
+use Rattle.sheet.proofs.read.Goals.{In_ok-profile_of, Else-sheet-size, In_default, In_default-outside, After-count, Else-not-any_traded}
 
 -- ---- what the calls say, by the sheet's own layout
 
@@ -33,8 +35,8 @@ module _ (s : List ℕ) {l : Layout} (made : l ≡ layout_of s) where
   numbers_are : {zs : List ℤ} → zs ≡ all_numbers s → numbers_of l zs ≡ sheet_numbers s
   numbers_are read = rw (made, read) refl
 
-known : (c : Else-not-profile_known) → profile_known c.args.sheet.now ≡ true
-known c = sym c.profile_known.ensures ∙ c.if-not-profile_known.false
+known : (c : In_ok-profile_of) → profile_known c.args.sheet.now ≡ true
+known c = known_by c.args.sheet.now _ c.in_ok-profile_of.ensures
 
 long : (c : Else-sheet-size) → length c.args.sheet.now ≡ size_of (layout_of c.args.sheet.now)
 long c = c.if-sheet-size.false ∙ c.size.ensures.0 ∙ ap size_of c.layout_of-layout.ensures
@@ -61,14 +63,17 @@ traded_by s e told = sym (told ∙ ap (λ (n : Numbers). ltb 0 (total n.volumes)
 
 -- ---- the grounds
 
-pub returns-then-not-profile_known : goal.returns-then-not-profile_known
-returns-then-not-profile_known c = sym (read_unknown_profile c.args.sheet.now (sym c.profile_known.ensures ∙ c.if-not-profile_known.true))
+pub returns-in_err-profile_of : goal.returns-in_err-profile_of
+returns-in_err-profile_of c =
+    let told : c.from_residual.result ≡ Err c.in_err-profile_of.field-0.0 = search rules in
+    let (unknown, ground) = unknown_by c.args.sheet.now _ c.in_err-profile_of.ensures in
+    rw (told, ground) (sym (read_unknown_profile c.args.sheet.now unknown))
 
 pub returns-then-sheet-size : goal.returns-then-sheet-size
 returns-then-sheet-size c =
     let at = goal.at.returns-then-sheet-size c in
     let size = c.size.ensures.0 ∙ ap size_of c.layout_of-layout.ensures in
-    sym (read_wrong_length c.args.sheet.now (known at.Else-not-profile_known) (λ e. c.if-sheet-size.true (e ∙ sym size)))
+    sym (read_wrong_length c.args.sheet.now (known at.In_ok-profile_of) (λ e. c.if-sheet-size.true (e ∙ sym size)))
 
 pub returns-in-Some : goal.returns-in-Some
 returns-in-Some c =
@@ -76,7 +81,7 @@ returns-in-Some c =
     let s = c.args.sheet.now in
     let (some, is) = place_is s c.layout_of-layout.ensures (right_record s) c.read_records-wrong.ensures.wrong c.in-Some.is in
     sym
-    (read_wrong_record s (known at.Else-not-profile_known) (long at.Else-sheet-size) some
+    (read_wrong_record s (known at.In_ok-profile_of) (long at.Else-sheet-size) some
     ∙ ap (λ (i : ℕ). refused (wrong_record i)) is)
 
 pub returns-in-Some-outside : goal.returns-in-Some-outside
@@ -85,7 +90,7 @@ returns-in-Some-outside c =
     let s = c.args.sheet.now in
     let (some, is) = place_is s c.layout_of-layout.ensures (in_range s) c.read_records-wrong.ensures.outside c.in-Some-outside.is in
     sym
-    (read_out_of_range s (known at.Else-not-profile_known) (long at.Else-sheet-size) (right at.In_default) some
+    (read_out_of_range s (known at.In_ok-profile_of) (long at.Else-sheet-size) (right at.In_default) some
     ∙ ap (λ (i : ℕ). refused (out_of_range i)) is)
 
 all_here : (c : After-count) → first_outside c.args.sheet.now ≡ 0 →
@@ -102,7 +107,7 @@ returns-then-not-any_traded c =
     let at = goal.at.returns-then-not-any_traded c in
     let s = c.args.sheet.now in
     let untraded = traded_by s (of_sheet at.After-count) c.any_traded.ensures ∙ c.if-not-any_traded.true in
-    sym (read_no_volume s (known at.Else-not-profile_known) (long at.Else-sheet-size) (right at.In_default) (inside at.In_default-outside) untraded)
+    sym (read_no_volume s (known at.In_ok-profile_of) (long at.Else-sheet-size) (right at.In_default) (inside at.In_default-outside) untraded)
 
 -- all grounds passed
 passed : (c : Else-not-any_traded) → read_sheet c.args.sheet.now ≡ done (sheet_numbers c.args.sheet.now)
@@ -110,7 +115,7 @@ passed c =
     let at = goal.at.numbers_of-requires-clause-in_range c in
     let s = c.args.sheet.now in
     let traded = traded_by s (of_sheet at.After-count) c.any_traded.ensures ∙ c.if-not-any_traded.false in
-    read_numbers s (known at.Else-not-profile_known) (long at.Else-sheet-size) (right at.In_default) (inside at.In_default-outside) traded
+    read_numbers s (known at.In_ok-profile_of) (long at.Else-sheet-size) (right at.In_default) (inside at.In_default-outside) traded
 
 pub numbers_of-requires-clause-inside : goal.numbers_of-requires-clause-inside
 numbers_of-requires-clause-inside c =

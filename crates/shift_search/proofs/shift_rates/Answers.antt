@@ -15,7 +15,7 @@ use Rattle.shift.proofs.Ranges.{inside}
 use Rattle.rounding.proofs.Machine.{stored, stored_is}
 use Rattle.shift_search.proofs.Moving.{moved_is, back_is, inside_here, outside_here, inside_end}
 use Rattle.shift_search.proofs.shift_rates.Goals as goal
-use Rattle.shift_search.proofs.shift_rates.Goals.{After-quote_inside}
+use Rattle.shift_search.proofs.shift_rates.Goals.{After-admits}
 
 module _ (rates : List ℤ) (quotes : ℕ) (s : ℤ) (long : length rates ≡ 17) (most : quotes ≤ 17) where
   long_taken : length (take quotes rates) ≡ quotes
@@ -39,7 +39,7 @@ as_given rates s is e = sym (ap (λ (x : ℤ). quotes_inside (shifted_rates x ra
 
 -- ---- in a pass
 
-module _ (c : After-quote_inside) where
+module _ (c : After-admits) where
   abbrev i : ℕ
   i = c.loop-i.i
 
@@ -65,23 +65,23 @@ module _ (c : After-quote_inside) where
   due = due_is c.args.rates c.args.quotes (stored c.args.s) long_rates c.requires.0 i h ∙ ap (λ (x : ℤ). z +ℤ x) (stored_is c.args.s c.requires.1 tt)
 
   -- what was tested is the quote that is due
-  tested : inside (z +ℤ c.args.s) ≡ c.quote_inside.result
-  tested = sym (c.quote_inside.ensures ∙ ap inside (moved_is z c.args.s range c.requires.1))
+  tested : inside (z +ℤ c.args.s) ≡ c.admits.result
+  tested = sym (c.admits.ensures ∙ ap inside (moved_is z c.args.s range c.requires.1))
 
-  tested_due : inside (get_or target i (pos 0)) ≡ c.quote_inside.result
+  tested_due : inside (get_or target i (pos 0)) ≡ c.admits.result
   tested_due = ap inside due ∙ tested
 
-pub returns-then-not-quote_inside-clause-inside : goal.returns-then-not-quote_inside-clause-inside
-returns-then-not-quote_inside-clause-inside c =
-    let p = (goal.at.returns-then-not-quote_inside-clause-inside c).After-quote_inside in
+pub returns-then-not-admits-clause-inside : goal.returns-then-not-admits-clause-inside
+returns-then-not-admits-clause-inside c =
+    let p = (goal.at.returns-then-not-admits-clause-inside c).After-admits in
     as_given (take c.args.quotes c.args.rates) c.args.s (stored_is c.args.s c.requires.1 tt)
-    (c.loop-i.invariant.left ∙ outside_here (target p) (i p) (inside_target p) (tested_due p ∙ c.if-not-quote_inside.true))
+    (c.loop-i.invariant.left ∙ outside_here (target p) (i p) (inside_target p) (tested_due p ∙ c.if-not-admits.true))
 
 pub loop-i-preserved : goal.loop-i-preserved
 loop-i-preserved c =
-    let p = (goal.at.loop-i-preserved c).After-quote_inside in
+    let p = (goal.at.loop-i-preserved c).After-admits in
     let l = c.loop-i in
-    let passed = c.if-not-quote_inside.false in
+    let passed = c.if-not-admits.false in
     let back = back_is (z p) c.args.s (range p) c.requires.1 (tested p ∙ passed) in
     record {
       long = length-set l.next l.i _ ∙ l.invariant.long;

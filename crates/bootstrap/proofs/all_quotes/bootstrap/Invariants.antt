@@ -1,7 +1,7 @@
 -- Invariant: what is left of the quotes, from the part so far, is the whole.
 use mathlib.Core.Path.{◌≡◌}
 use mathlib.Core.List.{List}
-use Prim.Native.Nat.{ℕ, ◌-◌}
+use Prim.Native.Nat.{ℕ}
 use lib.IntN.{ℤ}
 use lib.ListN.{length, take}
 use Rattle.bootstrap.specs.declared.Quotes.{Quotes}
@@ -18,10 +18,8 @@ rates_of q = take q.count q.rates
 
 pub record Quoted (q : Quotes) (w : Liquid) (i : ℕ) : Type 0 where
   pub long : length (maturities_of q) ≡ q.count
+  pub as_long : length (rates_of q) ≡ q.count
   pub going : Going (maturities_of q) (rates_of q) w i
 
-abbrev pub invariant-loop-i : goal.invariant-loop-i
-invariant-loop-i l = Quoted l.q l.liquid l.i
-
-abbrev pub decreases-loop-i : goal.decreases-loop-i
-decreases-loop-i l = l.q.count - l.i
+abbrev pub invariant-loop-maturity : goal.invariant-loop-maturity
+invariant-loop-maturity l = Quoted l.fn.q l.liquid (length l.yielded)
