@@ -49,7 +49,7 @@ pub fn end(p: Pair, up: bool) -> u64
     if up { p.high } else { p.low }
 }
 
-// By one division: the library's `div_ceil` takes the remainder too, a fifth more of a late year's look-up.
+// By one division: the library's `div_ceil` takes the remainder too, 4% more instructions of a look-up of year 150.
 fn ceiling(a: u64, b: u64) -> u64
     requires { 0 < b }
     ensures { result ≡ ceil_div a b }
