@@ -3,7 +3,7 @@ use mathlib.Core.Path.{◌≡◌, refl, sym, ap, ◌∙◌}
 use mathlib.Core.List.{List, [], ◌∷◌, ◌++◌, append_assoc, append-nil}
 use Prim.Native.Nat.{ℕ, zero, suc, ◌+◌, ◌/◌, ◌%◌, ◌≤◌, ◌<◌}
 use native.Mathlib.Omega.{arith}
-use lib.ListN.{length, take, drop, set, length-append, take-append-drop}
+use lib.ListN.{length, take, drop, set, length-append, length-drop, take-append-drop}
 use lib.Seq.{length-take-le, take_at, drop_at, drop-drop, set_split, take-set-le}
 use Rattle.method.specs.Bytes.{in_bytes, put_at}
 
@@ -21,6 +21,9 @@ pub put_first : (bytes l : List ℕ) → put_at 0 bytes l ≡ bytes ++ drop (len
 put_first bytes l =
     let e : 0 + length bytes ≡ length bytes = omega arith in
     rw e
+
+pub put_length : (at : ℕ) (bytes l : List ℕ) → at + length bytes ≤ length l → length (put_at at bytes l) ≡ length l
+put_length at bytes l h = simp (length-append, length-drop) (omega (arith, length-take-le at l (omega arith)))
 
 -- some bytes, and more behind them
 pub put_next : (bytes more l : List ℕ) (at n : ℕ) → length bytes ≡ n → at + n ≤ length l →

@@ -20,7 +20,7 @@ use Rattle.block.specs.Views.{Totals, totals_from, block_of, factor_in, weighed}
 
 -- ---- the totals: how many, and how large
 
-set_le : (l : List ℕ) (i v k m : ℕ) → get_or l k 0 ≤ m → v ≤ m → get_or (set l i v) k 0 ≤ m
+pub set_le : (l : List ℕ) (i v k m : ℕ) → get_or l k 0 ≤ m → v ≤ m → get_or (set l i v) k 0 ≤ m
 set_le [] i v k m h g = h
 set_le (x ∷ l) zero v zero m h g = g
 set_le (x ∷ l) zero v (suc k) m h g = h

@@ -2,14 +2,10 @@
 use Prim.Native.Nat.{ℕ, zero, suc, ◌/◌, ◌≤◌}
 use native.Mathlib.Nat.{div-le_self}
 use native.Mathlib.Omega.{arith}
-use lib.IntN.{ℤ, pos, negsuc, neg_ℤ}
+use lib.IntN.{ℤ, pos, negsuc}
 use lib.Signed.{mag, quot_z, ◌<ℤ◌}
 use Rattle.fraction.specs.Rounding.{floor, ceiling}
-
--- -m ≥ -(n + 1)
-mag_negative : (m : ℕ) {n : ℕ} → m ≤ suc n → mag (neg_ℤ (pos m)) ≤ n
-mag_negative zero h = omega arith
-mag_negative (suc m) h = omega arith
+use Rattle.rounding.proofs.Signed.{mag_negative}
 
 pub floor-mag : (a : ℤ) (d : ℕ) → mag (floor a d) ≤ mag a
 floor-mag (pos a) d = div-le_self a d

@@ -1,3 +1,4 @@
+pub mod Signed
 pub mod Bounds
 pub mod Remainder
 pub mod Division

@@ -5,15 +5,15 @@ use Prim.Native.Nat.{ℕ, ◌+◌, ◌*◌, ◌≤◌, ◌<◌, ◌^◌}
 use native.Mathlib.Nat.{le_trans}
 use native.Mathlib.Omega.{arith}
 use lib.Dec.{T, ltb, ltb→lt}
-use lib.IntN.{ℤ, pos, negsuc, nat_abs, ◌+ℤ◌, ◌*ℤ◌}
+use lib.IntN.{ℤ, pos, negsuc, nat_abs, neg_ℤ, ◌+ℤ◌, ◌-ℤ◌, ◌*ℤ◌, +ℤ_idl}
 use lib.Signed.{mag, lt_z, le_z, non_neg, ◌≤ℤ◌}
 use mir.Syntax.{w64}
 use mir.Val.{SFits, of_z, to_z}
 use mir.ValLaws.{to_z-of_z}
 use mir.Facts.{to_z_pos}
-use borrow.Author.Tests.{ltb-true}
+use borrow.Author.Tests.{ltb-true, ltb-false, le-leb, lt-leb}
 use Rattle.fraction.specs.Rounding.{round_ℤ}
-use Rattle.method.proofs.Size.{Bounded, bounded-+, bounded-*}
+use Rattle.method.proofs.Size.{Bounded, bounded-+, bounded-*, size_neg}
 
 abbrev pub stored : ℤ → ℤ
 stored z = to_z w64 (of_z w64 z)
@@ -44,6 +44,24 @@ natural_is n {M} h s = to_z_pos w64 (omega (arith, ltb→lt M (2 ^ 63) s))
 -- a call's result is read back
 pub returned : {r z : ℤ} → r ≡ z → mag r < 2 ^ 63 → stored r ≡ z
 returned {r} e h = to_z-of_z w64 r (record { sfits = h }) ∙ e
+
+-- ---- minus
+
+module _ (z : ℤ) {M : ℕ} (h : nat_abs z ≤ M) (s : Small M) where
+  minus_size : nat_abs (neg_ℤ z) ≤ M
+  minus_size = rw (size_neg z) h
+
+  minus : pos 0 -ℤ stored z ≡ neg_ℤ z
+  minus = rw (stored_is z h s) (+ℤ_idl (neg_ℤ z))
+
+  pub minus_fits : SFits w64 (pos 0 -ℤ stored z)
+  minus_fits = rw minus (size_fits (neg_ℤ z) minus_size s)
+
+  pub minus_read : stored (pos 0 -ℤ stored z) ≡ neg_ℤ z
+  minus_read = rw minus (stored_is (neg_ℤ z) minus_size s)
+
+  pub minus_read_size : nat_abs (stored (pos 0 -ℤ stored z)) ≤ M
+  minus_read_size = rw minus_read minus_size
 
 -- ---- sums and products: what the machine computes, the integer that it is, and a bound on its size
 
@@ -108,12 +126,38 @@ non_negative : (z : ℤ) → lt_z z (pos 0) ≡ false → non_neg z ≡ true
 non_negative (pos n) h = refl
 non_negative (negsuc n) h = absurd (subst T h tt)
 
+lt→not_le_z : (a b : ℤ) → lt_z a b ≡ true → le_z b a ≡ false
+lt→not_le_z (pos a) (pos b) h = lt-leb b a (ltb-true a b h)
+lt→not_le_z (pos a) (negsuc b) h = absurd (subst T (sym h) tt)
+lt→not_le_z (negsuc a) (pos b) h = refl
+lt→not_le_z (negsuc a) (negsuc b) h = lt-leb a b (ltb-true b a h)
+
+not_lt→le_z : (a b : ℤ) → lt_z a b ≡ false → le_z b a ≡ true
+not_lt→le_z (pos a) (pos b) h = le-leb b a (ltb-false a b h)
+not_lt→le_z (pos a) (negsuc b) h = refl
+not_lt→le_z (negsuc a) (pos b) h = absurd (subst T h tt)
+not_lt→le_z (negsuc a) (negsuc b) h = le-leb a b (ltb-false b a h)
+
 module _ {z : ℤ} (fits : SFits w64 z) where
   pub read_negative : lt_z (stored z) (pos 0) ≡ true → non_neg z ≡ false
   read_negative h = negative z (rw (to_z-of_z w64 z fits) at h)
 
   pub read_non_negative : lt_z (stored z) (pos 0) ≡ false → non_neg z ≡ true
   read_non_negative h = non_negative z (rw (to_z-of_z w64 z fits) at h)
+
+  -- against a bound
+  module _ (b : ℤ) where
+    pub read_below : lt_z (stored z) b ≡ true → le_z b z ≡ false
+    read_below h = lt→not_le_z z b (rw (to_z-of_z w64 z fits) at h)
+
+    pub read_not_below : lt_z (stored z) b ≡ false → le_z b z ≡ true
+    read_not_below h = not_lt→le_z z b (rw (to_z-of_z w64 z fits) at h)
+
+    pub read_above : lt_z b (stored z) ≡ true → le_z z b ≡ false
+    read_above h = lt→not_le_z b z (rw (to_z-of_z w64 z fits) at h)
+
+    pub read_not_above : lt_z b (stored z) ≡ false → le_z z b ≡ true
+    read_not_above h = not_lt→le_z b z (rw (to_z-of_z w64 z fits) at h)
 
 pub one_non_neg : (z : ℤ) → le_z (pos 1) z ≡ true → T (non_neg z)
 one_non_neg (pos n) h = tt

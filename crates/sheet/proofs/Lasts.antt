@@ -50,19 +50,19 @@ module _ (l : Layout) where
   pub first_past : l.phased ≡ true → slot_at l first ≡ slot phase_in 0 start
   first_past = phase_in_slot l
 
-  alone_past : l.phased ≡ false → first < length (slots_of l) → slot_at l first ≡ slot adjustment 0 (start + 0)
+  pub alone_past : l.phased ≡ false → first < length (slots_of l) → slot_at l first ≡ slot adjustment 0 (start + 0)
   alone_past f h =
       let none : ◌≡◌ {A = ℕ} (cond l.phased 1 0) 0 = ap (λ (b : Bool). cond b 1 0) f in
       let here : first + 0 ≡ first = omega arith in
       rw here at (placed f (stands l.adjusts (omega (arith, slots_length l, none))))
 
-  second_past : first + 1 < length (slots_of l) → slot_at l (first + 1) ≡ slot adjustment 0 (start + 3)
+  pub second_past : first + 1 < length (slots_of l) → slot_at l (first + 1) ≡ slot adjustment 0 (start + 3)
   second_past h =
       let (phased, adjusts) = both_stand l.phased l.adjusts (omega (arith, slots_length l)) in
       placed phased adjusts
 
   -- and no slot behind that one
-  past_two : (i : ℕ) → first < i → i < length (slots_of l) → i ≡ first + 1
+  pub past_two : (i : ℕ) → first < i → i < length (slots_of l) → i ≡ first + 1
   past_two i from to = omega (arith, slots_length l, most_two l.phased l.adjusts)
 
   first_none : first < length (slots_of l) → 0 ≡ (slot_at l first).maturity

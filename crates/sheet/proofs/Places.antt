@@ -50,3 +50,8 @@ or_else (suc place) later = suc place
 pub or_found : (found later : ℕ) → (found ≡ 0 → ⊥) → found ≡ or_else found later
 or_found zero later n = absurd (n refl)
 or_found (suc found) later n = refl
+
+-- it is the code's choice between two places that may be missing
+pub or_is : (place later : ℕ) → found (or_else place later) ≡ option_or (found place) (found later)
+or_is zero later = refl
+or_is (suc place) later = refl

@@ -21,7 +21,7 @@ module _ (fs : List Flow) (target : ℕ) where
   none_costs e = rw (sym e) refl
 
   module _ {totals : List ℕ} (of : block_of fs ≡ done totals) (cs : code.Curves) (p : Pair) (valued : Values totals cs.plain.years.lows cs.plain.years.highs p) where
-    high_is : worth_of true (factor_in cs.plain.years.highs) fs ≡ p.high
+    pub high_is : worth_of true (factor_in cs.plain.years.highs) fs ≡ p.high
     unfolding value_by
     high_is = ap (λ (q : method.Pair). q.high) (done_injective (rw (list_passed fs of) at (valued fs of)))
 

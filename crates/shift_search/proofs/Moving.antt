@@ -49,7 +49,7 @@ module _ (z s : ℤ) (range : RateInRange z) (few : nat_abs s ≤ 500) where
 
   -- put back, where it stays inside
   module _ (e : inside (z +ℤ s) ≡ true) where
-    back_fits : SFits w16 (stored (stored (kept z) +ℤ stored s))
+    pub back_fits : SFits w16 (stored (stored (kept z) +ℤ stored s))
     back_fits = rw moved_is (rate_fits (integer_range (z +ℤ s) e))
 
     pub back_is : kept (stored (stored (kept z) +ℤ stored s)) ≡ z +ℤ s
