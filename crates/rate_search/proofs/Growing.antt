@@ -1,6 +1,6 @@
 -- A year's growth in 64 bits: cut where it is past every bound.
 use Rattle.std.proofs.Common.{◌≡◌, ℕ, zero, suc, ◌*◌, ◌<◌, ◌≤◌, min, Bool, true, false, leb}
-use Rattle.std.proofs.Common.{refl, le_trans, le_refl, mul-le-mul_left, le-div_iff_mul-le, arith, lit<, leb-false, leb-true}
+use Rattle.std.proofs.Common.{refl, sym, ap, ◌+◌, ◌∙◌, add-one, le_trans, le_refl, mul-le-mul_left, le-div_iff_mul-le, arith, lit<, leb-false, leb-true}
 use native.Mathlib.Nat.{min-eq_left}
 use Rattle.fraction.specs.Rounding.{U, round_ℕ}
 use Rattle.method.specs.Units.{rate_unit}
@@ -45,3 +45,8 @@ cut_more up m t =
 pub cut_none : (up : Bool) (m : ℕ) → growth_cut up m 0 ≡ U
 unfolding compound
 cut_none up m = refl
+
+-- one more year
+pub grown_more : (up : Bool) (m t : ℕ) {g r : ℕ} → g ≡ growth_cut up m t → r ≡ min (round_ℕ up (g * m) rate_unit) cap → r ≡ growth_cut up m (t + 1)
+grown_more up m t e r =
+    r ∙ ap (λ (k : ℕ). min (round_ℕ up (k * m) rate_unit) cap) e ∙ sym (cut_more up m t) ∙ ap (growth_cut up m) (sym (add-one t))

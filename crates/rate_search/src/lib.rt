@@ -9,7 +9,7 @@ ghost use Rattle.method.specs.Units.{pair, rate_unit};
 ghost use Rattle.zero_rates.specs.Rates.{low_multiplier, rate_of, zero_rates};
 ghost use Rattle.grounds.specs.Answers.{outcome_of};
 ghost use Rattle.rounding.specs.Pairs.{as_signed_pair};
-ghost use Rattle.rate_search.specs.Search.{unit_squared, cap, GrowthsOf, within, confirmed, Between, Turns};
+ghost use Rattle.rate_search.specs.Search.{unit_squared, cap, growth_cut, GrowthsOf, within, confirmed, Between, Turns};
 
 use grounds::Ground;
 use rounding::{SignedPair, UNIT};
@@ -45,7 +45,7 @@ fn year_on(g: u64, m: u64, up: bool) -> u64
     ensures { result ≡ min (round_ℕ up (g * m) rate_unit) cap }
 {
     if g < 90_000_000_000_000 {
-        return rounding::quotient(g * m, RATE_UNIT, up);
+        return rounding::small_quotient(g * m, RATE_UNIT, up);
     }
     rounding::split_quotient(g, m, RATE_UNIT, up).min(CAP)
 }
@@ -62,6 +62,18 @@ fn grow(m: u64, years: u64, up: bool) -> Growths
         next = year_on(next, m + 1, up);
     }
     Growths { here, next }
+}
+
+// At m alone: half the work, where the next does not matter.
+fn grown(m: u64, years: u64, up: bool) -> u64
+    requires { m ≤ 200_000 }
+    ensures { result ≡ growth_cut up m years }
+{
+    let mut g = UNIT;
+    for _ in 0..years {
+        g = year_on(g, m, up);
+    }
+    g
 }
 
 // Growth by squaring, in floating point: nearly right, and so only a guess.
@@ -117,8 +129,7 @@ impl Search {
         requires { (m ≤ 200_000) × (self.now.bound ≤ unit_squared) }
         ensures { result ≡ within self.now.up self.now.years self.now.bound m }
     {
-        let g = grow(m, self.years, self.up);
-        g.here <= self.bound
+        grown(m, self.years, self.up) <= self.bound
     }
 
     // Whether the growth comes to pass the bound right after m.

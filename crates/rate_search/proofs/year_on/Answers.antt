@@ -12,4 +12,4 @@ pub returns-then-g-lt90000000000000 : goal.returns-then-g-lt90000000000000
 returns-then-g-lt90000000000000 c =
     let a = c.args in
     let small = product_small a.g a.m c.if-g-lt90000000000000.true c.requires.1 in
-    c.quotient.ensures ∙ sym (min-eq_left (round-≤ a.up {m = cap} (omega arith) (omega (arith, small))))
+    c.small_quotient.ensures ∙ sym (min-eq_left (round-≤ a.up {m = cap} (omega arith) (omega (arith, small))))
